@@ -1,0 +1,15 @@
+mod Binds
+mod Types
+mod Sameness
+mod Accepted
+mod Spelled
+mod Read
+mod Traces
+mod Expressions
+mod Commands
+mod World
+mod Sim
+mod Names
+mod Steps
+mod Checked
+mod Sound

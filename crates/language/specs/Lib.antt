@@ -4,3 +4,15 @@ pub mod Kinds
 pub mod Faults
 pub mod Memory
 pub mod Counting
+pub mod Tree
+pub mod Results
+pub mod Table
+pub mod Spelling
+pub mod Sight
+pub mod Names
+pub mod WellFormed
+pub mod Stack
+pub mod Meaning
+pub mod Reference
+pub mod Runs
+pub mod Laws
