@@ -13,3 +13,4 @@ mod Names
 mod Steps
 mod Checked
 mod Sound
+mod Judged

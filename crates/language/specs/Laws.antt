@@ -18,6 +18,7 @@ use Rattle.language.specs.Tree.{Com}
 use Rattle.language.specs.Table.{build}
 use Rattle.language.specs.Spelling.{Spells}
 use Rattle.language.specs.Names.{check-rule}
+use Rattle.language.specs.Check.{check}
 use Rattle.language.specs.WellFormed.{Formed}
 use Rattle.language.specs.Meaning.{Event, begins, adds, Trace, Means}
 use Rattle.language.specs.Reference.{graded, answer}
@@ -30,6 +31,14 @@ Read-exactly = (nodes : List Node) (c : Com) → (build nodes ≡ Ok c) ↔ Spel
 -- the names check accepts exactly the well-formed rules
 abbrev pub Accepted-exactly : Type 0
 Accepted-exactly = (c : Com) → ((need : ℕ) × (check-rule c ≡ Ok need)) ↔ Formed c
+
+-- a table is accepted exactly when its size is right, the work lists are long enough, and it is a well-formed rule written out
+abbrev pub Judged-exactly : Type 0
+Judged-exactly =
+    (nodes : List Node) (l m k : ℕ) (c : Com) →
+    ((need : ℕ) × (check nodes l m k ≡ Ok (c, need)))
+    ↔ ((1 ≤ length nodes) × (length nodes ≤ 4096) × (length nodes + 2 ≤ l) × (length nodes + 2 ≤ m) × (length nodes + 2 ≤ k)
+    × Spells nodes c × Formed c)
 
 -- the commands that began, in order, by their nodes: each takes a unit
 abbrev pub commands : Trace → List ℕ

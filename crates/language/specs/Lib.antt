@@ -16,3 +16,6 @@ pub mod Meaning
 pub mod Reference
 pub mod Runs
 pub mod Laws
+pub mod Check
+pub mod Outcome
+pub mod Samples

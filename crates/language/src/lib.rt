@@ -1,8 +1,14 @@
 // The types that every layer shares, what a rule is and means, and the laws between these definitions.
+mod behaviour;
 mod faults;
+mod laws;
+mod lines;
+mod refusals;
+mod samples;
 mod tables;
 mod values;
 
+pub use behaviour::behaviour_samples;
 pub use faults::Fault;
 pub use faults::Layer;
 pub use faults::NamesCause;
@@ -10,6 +16,17 @@ pub use faults::PieceCause;
 pub use faults::PlaceKind;
 pub use faults::RunCause;
 pub use faults::TableCause;
+pub use laws::acceptance_is_exact;
+pub use laws::answers_are_steady;
+pub use laws::answers_follow_meaning;
+pub use laws::reading_is_exact;
+pub use laws::runs_are_sound;
+pub use laws::runs_exist;
+pub use laws::shifts_are_exact;
+pub use laws::tables_are_judged_exactly;
+pub use lines::sample_lines;
+pub use refusals::refusal_samples;
+pub use samples::Sample;
 pub use tables::Kind;
 pub use tables::Name;
 pub use tables::Node;
