@@ -1,0 +1,3 @@
+mod Soundness
+mod Clearing
+mod Changes
