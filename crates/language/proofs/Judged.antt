@@ -34,9 +34,15 @@ judged-exactly nodes l m k c = (there, back)
         let same : d ≡ c = ap (λ (p : Com × ℕ). p .0) (ok-is e₄) in
         let (s₁, s₂) = and-parts (leb 1 (length nodes)) (leb (length nodes) 4096) s in
         let (w₁, w₃) = and-parts (leb ((length nodes) + 2) l && leb ((length nodes) + 2) m) (leb ((length nodes) + 2) k) w in
-        let (w₁, w₂) = and-parts (leb ((length nodes) + 2) l) (leb ((length nodes) + 2) m) w₁ in
-        (leb-true 1 (length nodes) s₁, leb-true (length nodes) 4096 s₂, leb-true ((length nodes) + 2) l w₁, leb-true ((length nodes) + 2) m w₂, leb-true ((length nodes) + 2) k w₃,
-        subst (Spells nodes) same (built-exactly nodes d .0 b), subst Formed same (accepted-exactly d .0 (u, r)))
+        let (w₁, w₂) = and-parts (leb ((length nodes) + 2) l) (leb ((length nodes) + 2) m) w₁ in (
+          leb-true 1 (length nodes) s₁,
+          leb-true (length nodes) 4096 s₂,
+          leb-true ((length nodes) + 2) l w₁,
+          leb-true ((length nodes) + 2) m w₂,
+          leb-true ((length nodes) + 2) k w₃,
+          subst (Spells nodes) same (built-exactly nodes d .0 b),
+          subst Formed same (accepted-exactly d .0 (u, r)),
+        )
 
     back : ((1 ≤ (length nodes)) × ((length nodes) ≤ 4096) × ((length nodes) + 2 ≤ l) × ((length nodes) + 2 ≤ m) × ((length nodes) + 2 ≤ k) × Spells nodes c × Formed c)
         → (need : ℕ) × (check nodes l m k ≡ Ok (c, need))

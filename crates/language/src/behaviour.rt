@@ -4,252 +4,71 @@ use crate::faults::Fault;
 use crate::faults::Layer;
 use crate::faults::NamesCause;
 use crate::faults::RunCause;
-use crate::samples::BLANK;
 use crate::samples::Sample;
 use crate::samples::due;
+use crate::samples::node;
+use crate::samples::nodes;
 use crate::samples::sample;
-use crate::tables::Kind;
 use crate::tables::Node;
 use crate::values::Graded;
-
-static HIDDEN: [Node; 9] = [
-    Node { kind: Kind::Null as u8, ..BLANK },
-    Node { kind: Kind::Proc as u8, name: 3, ..BLANK },
-    Node { kind: Kind::Null as u8, ..BLANK },
-    Node { kind: Kind::Proc as u8, name: 3, ..BLANK },
-    Node { kind: Kind::Call as u8, name: 3, ..BLANK },
-    Node { kind: Kind::Proc as u8, name: 4, ..BLANK },
-    Node { kind: Kind::Call as u8, name: 4, ..BLANK },
-    Node { kind: Kind::Block as u8, b: 2, c: 1, ..BLANK },
-    Node { kind: Kind::Block as u8, b: 1, c: 1, ..BLANK },
-];
-
-static ONE_NAME: [Node; 11] = [
-    Node { kind: Kind::Decl as u8, name: 2, ..BLANK },
-    Node { kind: Kind::Read as u8, name: 2, ..BLANK },
-    Node { kind: Kind::Whole as u8, value: 7, ..BLANK },
-    Node { kind: Kind::Plus as u8, ..BLANK },
-    Node { kind: Kind::Assign as u8, name: 2, ..BLANK },
-    Node { kind: Kind::Read as u8, name: 2, ..BLANK },
-    Node { kind: Kind::Assign as u8, name: 1, ..BLANK },
-    Node { kind: Kind::Block as u8, c: 2, ..BLANK },
-    Node { kind: Kind::Proc as u8, name: 2, ..BLANK },
-    Node { kind: Kind::Call as u8, name: 2, ..BLANK },
-    Node { kind: Kind::Block as u8, a: 1, b: 1, c: 1, ..BLANK },
-];
-
-static NAME_TAKEN: [Node; 6] = [
-    Node { kind: Kind::Decl as u8, name: 2, ..BLANK },
-    Node { kind: Kind::Null as u8, ..BLANK },
-    Node { kind: Kind::Proc as u8, name: 2, ..BLANK },
-    Node { kind: Kind::Read as u8, name: 2, ..BLANK },
-    Node { kind: Kind::Assign as u8, name: 1, ..BLANK },
-    Node { kind: Kind::Block as u8, a: 1, b: 1, c: 1, ..BLANK },
-];
-
-static ORDER: [Node; 19] = [
-    Node { kind: Kind::Decl as u8, name: 5, ..BLANK },
-    Node { kind: Kind::Decl as u8, name: 6, ..BLANK },
-    Node { kind: Kind::Decl as u8, name: 2, ..BLANK },
-    Node { kind: Kind::Decl as u8, name: 3, ..BLANK },
-    Node { kind: Kind::Read as u8, name: 2, ..BLANK },
-    Node { kind: Kind::Read as u8, name: 2, ..BLANK },
-    Node { kind: Kind::Plus as u8, ..BLANK },
-    Node { kind: Kind::Read as u8, name: 3, ..BLANK },
-    Node { kind: Kind::Plus as u8, ..BLANK },
-    Node { kind: Kind::Assign as u8, name: 1, ..BLANK },
-    Node { kind: Kind::Proc as u8, name: 4, a: 2, ..BLANK },
-    Node { kind: Kind::Whole as u8, value: 10, ..BLANK },
-    Node { kind: Kind::Assign as u8, name: 5, ..BLANK },
-    Node { kind: Kind::Whole as u8, value: 1, ..BLANK },
-    Node { kind: Kind::Assign as u8, name: 6, ..BLANK },
-    Node { kind: Kind::Argument as u8, name: 5, ..BLANK },
-    Node { kind: Kind::Argument as u8, name: 6, ..BLANK },
-    Node { kind: Kind::Call as u8, name: 4, a: 2, ..BLANK },
-    Node { kind: Kind::Block as u8, a: 2, b: 1, c: 3, ..BLANK },
-];
-
-static ALIAS: [Node; 21] = [
-    Node { kind: Kind::Decl as u8, name: 5, ..BLANK },
-    Node { kind: Kind::Decl as u8, name: 2, ..BLANK },
-    Node { kind: Kind::Decl as u8, name: 3, ..BLANK },
-    Node { kind: Kind::Read as u8, name: 2, ..BLANK },
-    Node { kind: Kind::Whole as u8, value: 1, ..BLANK },
-    Node { kind: Kind::Plus as u8, ..BLANK },
-    Node { kind: Kind::Assign as u8, name: 2, ..BLANK },
-    Node { kind: Kind::Read as u8, name: 3, ..BLANK },
-    Node { kind: Kind::Read as u8, name: 2, ..BLANK },
-    Node { kind: Kind::Plus as u8, ..BLANK },
-    Node { kind: Kind::Assign as u8, name: 3, ..BLANK },
-    Node { kind: Kind::Block as u8, c: 2, ..BLANK },
-    Node { kind: Kind::Proc as u8, name: 4, a: 2, ..BLANK },
-    Node { kind: Kind::Whole as u8, value: 3, ..BLANK },
-    Node { kind: Kind::Assign as u8, name: 5, ..BLANK },
-    Node { kind: Kind::Argument as u8, name: 5, ..BLANK },
-    Node { kind: Kind::Argument as u8, name: 5, ..BLANK },
-    Node { kind: Kind::Call as u8, name: 4, a: 2, ..BLANK },
-    Node { kind: Kind::Read as u8, name: 5, ..BLANK },
-    Node { kind: Kind::Assign as u8, name: 1, ..BLANK },
-    Node { kind: Kind::Block as u8, a: 1, b: 1, c: 3, ..BLANK },
-];
-
-static NOT_ENTERED: [Node; 3] = [
-    Node { kind: Kind::Truth as u8, ..BLANK },
-    Node { kind: Kind::Null as u8, ..BLANK },
-    Node { kind: Kind::While as u8, ..BLANK },
-];
-
-static NESTED: [Node; 12] = [
-    Node { kind: Kind::Read as u8, name: 1, ..BLANK },
-    Node { kind: Kind::Whole as u8, value: 1, ..BLANK },
-    Node { kind: Kind::Plus as u8, ..BLANK },
-    Node { kind: Kind::Assign as u8, name: 1, ..BLANK },
-    Node { kind: Kind::Proc as u8, name: 2, ..BLANK },
-    Node { kind: Kind::Call as u8, name: 2, ..BLANK },
-    Node { kind: Kind::Call as u8, name: 2, ..BLANK },
-    Node { kind: Kind::Block as u8, c: 2, ..BLANK },
-    Node { kind: Kind::Proc as u8, name: 3, ..BLANK },
-    Node { kind: Kind::Call as u8, name: 3, ..BLANK },
-    Node { kind: Kind::Block as u8, b: 1, c: 1, ..BLANK },
-    Node { kind: Kind::Block as u8, b: 1, c: 1, ..BLANK },
-];
-
-static BRANCH: [Node; 8] = [
-    Node { kind: Kind::Read as u8, ..BLANK },
-    Node { kind: Kind::Whole as u8, ..BLANK },
-    Node { kind: Kind::Less as u8, ..BLANK },
-    Node { kind: Kind::Whole as u8, value: 1, ..BLANK },
-    Node { kind: Kind::Assign as u8, name: 1, ..BLANK },
-    Node { kind: Kind::Whole as u8, value: 2, ..BLANK },
-    Node { kind: Kind::Assign as u8, name: 1, ..BLANK },
-    Node { kind: Kind::If as u8, ..BLANK },
-];
-
-static LEFT_FIRST: [Node; 8] = [
-    Node { kind: Kind::Read as u8, ..BLANK },
-    Node { kind: Kind::Whole as u8, value: 1, ..BLANK },
-    Node { kind: Kind::Plus as u8, ..BLANK },
-    Node { kind: Kind::Read as u8, ..BLANK },
-    Node { kind: Kind::Whole as u8, value: 1, ..BLANK },
-    Node { kind: Kind::Plus as u8, ..BLANK },
-    Node { kind: Kind::Plus as u8, ..BLANK },
-    Node { kind: Kind::Assign as u8, name: 1, ..BLANK },
-];
-
-static BELOW: [Node; 4] = [
-    Node { kind: Kind::Read as u8, ..BLANK },
-    Node { kind: Kind::Whole as u8, value: -1, ..BLANK },
-    Node { kind: Kind::Plus as u8, ..BLANK },
-    Node { kind: Kind::Assign as u8, name: 1, ..BLANK },
-];
-
-static COPY: [Node; 2] = [
-    Node { kind: Kind::Read as u8, ..BLANK },
-    Node { kind: Kind::Assign as u8, name: 1, ..BLANK },
-];
-
-static NEXT: [Node; 4] = [
-    Node { kind: Kind::Read as u8, ..BLANK },
-    Node { kind: Kind::Whole as u8, value: 1, ..BLANK },
-    Node { kind: Kind::Plus as u8, ..BLANK },
-    Node { kind: Kind::Assign as u8, name: 1, ..BLANK },
-];
-
-static FIRST_MET: [Node; 6] = [
-    Node { kind: Kind::Read as u8, ..BLANK },
-    Node { kind: Kind::Whole as u8, value: 1, ..BLANK },
-    Node { kind: Kind::Plus as u8, ..BLANK },
-    Node { kind: Kind::Assign as u8, name: 1, ..BLANK },
-    Node { kind: Kind::Null as u8, ..BLANK },
-    Node { kind: Kind::Block as u8, c: 2, ..BLANK },
-];
-
-static TRUTHS: [Node; 9] = [
-    Node { kind: Kind::Decl as u8, name: 2, value: 1, ..BLANK },
-    Node { kind: Kind::Truth as u8, value: 1, ..BLANK },
-    Node { kind: Kind::Assign as u8, name: 2, ..BLANK },
-    Node { kind: Kind::Read as u8, name: 2, ..BLANK },
-    Node { kind: Kind::Whole as u8, value: 9, ..BLANK },
-    Node { kind: Kind::Assign as u8, name: 1, ..BLANK },
-    Node { kind: Kind::Null as u8, ..BLANK },
-    Node { kind: Kind::If as u8, ..BLANK },
-    Node { kind: Kind::Block as u8, a: 1, c: 2, ..BLANK },
-];
-
-static FALSE_FIRST: [Node; 8] = [
-    Node { kind: Kind::Decl as u8, name: 2, value: 1, ..BLANK },
-    Node { kind: Kind::Read as u8, name: 2, ..BLANK },
-    Node { kind: Kind::Whole as u8, value: 9, ..BLANK },
-    Node { kind: Kind::Assign as u8, name: 1, ..BLANK },
-    Node { kind: Kind::Whole as u8, value: 4, ..BLANK },
-    Node { kind: Kind::Assign as u8, name: 1, ..BLANK },
-    Node { kind: Kind::If as u8, ..BLANK },
-    Node { kind: Kind::Block as u8, a: 1, c: 1, ..BLANK },
-];
-
-static EITHER: [Node; 11] = [
-    Node { kind: Kind::Read as u8, ..BLANK },
-    Node { kind: Kind::Whole as u8, ..BLANK },
-    Node { kind: Kind::Less as u8, ..BLANK },
-    Node { kind: Kind::Whole as u8, ..BLANK },
-    Node { kind: Kind::Read as u8, ..BLANK },
-    Node { kind: Kind::Less as u8, ..BLANK },
-    Node { kind: Kind::Or as u8, ..BLANK },
-    Node { kind: Kind::Whole as u8, value: 1, ..BLANK },
-    Node { kind: Kind::Assign as u8, name: 1, ..BLANK },
-    Node { kind: Kind::Null as u8, ..BLANK },
-    Node { kind: Kind::If as u8, ..BLANK },
-];
-
-static HIDES_IN: [Node; 4] = [
-    Node { kind: Kind::Decl as u8, ..BLANK },
-    Node { kind: Kind::Read as u8, ..BLANK },
-    Node { kind: Kind::Assign as u8, name: 1, ..BLANK },
-    Node { kind: Kind::Block as u8, a: 1, c: 1, ..BLANK },
-];
-
-static FORMAL_OUT: [Node; 9] = [
-    Node { kind: Kind::Decl as u8, name: 1, ..BLANK },
-    Node { kind: Kind::Whole as u8, value: 5, ..BLANK },
-    Node { kind: Kind::Assign as u8, name: 1, ..BLANK },
-    Node { kind: Kind::Proc as u8, name: 2, a: 1, ..BLANK },
-    Node { kind: Kind::Argument as u8, ..BLANK },
-    Node { kind: Kind::Call as u8, name: 2, a: 1, ..BLANK },
-    Node { kind: Kind::Read as u8, ..BLANK },
-    Node { kind: Kind::Assign as u8, name: 1, ..BLANK },
-    Node { kind: Kind::Block as u8, b: 1, c: 2, ..BLANK },
-];
 
 // Every answer is the defined one: the contract is one equation over the whole list.
 pub fn behaviour_samples() -> [Sample; 26]
     ensures answers_due { λ r. ⌜ As-due r ⌝ }
 {
+    let hidden =
+        nodes![null, proc 3 0, null, proc 3 0, call 3 0, proc 4 0, call 4 0, block 0 2 1, block 0 1 1];
+    let one_name =
+        nodes![decl 2 0, read 2, whole 7, plus, assign 2, read 2, assign 1, block 0 0 2, proc 2 0, call 2 0, block 1 1 1];
+    let name_taken = nodes![decl 2 0, null, proc 2 0, read 2, assign 1, block 1 1 1];
+    let order =
+        nodes![decl 5 0, decl 6 0, decl 2 0, decl 3 0, read 2, read 2, plus, read 3, plus, assign 1, proc 4 2, whole 10, assign 5, whole 1, assign 6, argument 5, argument 6, call 4 2, block 2 1 3];
+    let alias =
+        nodes![decl 5 0, decl 2 0, decl 3 0, read 2, whole 1, plus, assign 2, read 3, read 2, plus, assign 3, block 0 0 2, proc 4 2, whole 3, assign 5, argument 5, argument 5, call 4 2, read 5, assign 1, block 1 1 3];
+    let not_entered = nodes![truth 0, null, while];
+    let nested =
+        nodes![read 1, whole 1, plus, assign 1, proc 2 0, call 2 0, call 2 0, block 0 0 2, proc 3 0, call 3 0, block 0 1 1, block 0 1 1];
+    let branch = nodes![read 0, whole 0, less, whole 1, assign 1, whole 2, assign 1, if];
+    let left_first = nodes![read 0, whole 1, plus, read 0, whole 1, plus, plus, assign 1];
+    let below = nodes![read 0, whole -1, plus, assign 1];
+    let copy = nodes![read 0, assign 1];
+    let next = nodes![read 0, whole 1, plus, assign 1];
+    let first_met = nodes![read 0, whole 1, plus, assign 1, null, block 0 0 2];
+    let truths =
+        nodes![decl 2 1, truth 1, assign 2, read 2, whole 9, assign 1, null, if, block 1 0 2];
+    let false_first =
+        nodes![decl 2 1, read 2, whole 9, assign 1, whole 4, assign 1, if, block 1 0 1];
+    let either =
+        nodes![read 0, whole 0, less, whole 0, read 0, less, or, whole 1, assign 1, null, if];
+    let hides_in = nodes![decl 0 0, read 0, assign 1, block 1 0 1];
+    let formal_out =
+        nodes![decl 1 0, whole 5, assign 1, proc 2 1, argument 0, call 2 1, read 0, assign 1, block 0 1 2];
     [
-        sample!("a block that declares a procedure again hides the outer one from its bodies", &HIDDEN, 11, 0, 1000, due!(no Layer::Names(NamesCause::Procedure), 4)),
-        sample!("a body sees the variable of its procedure's name", &ONE_NAME, 13, 0, 1000, due!(ok 7 5)),
-        sample!("commands see the procedure of a variable's name", &NAME_TAKEN, 8, 0, 1000, due!(no Layer::Names(NamesCause::Variable), 3)),
-        sample!("arguments go to formals in order", &ORDER, 21, 0, 1000, due!(ok 21 5)),
-        sample!("two formals of one location", &ALIAS, 23, 0, 1000, due!(ok 8 7)),
-        sample!("a while never entered takes one unit", &NOT_ENTERED, 5, 0, 1000, due!(ok 0 1)),
-        sample!("calls inside calls", &NESTED, 14, 0, 1000, due!(ok 2 8)),
-        sample!("the first branch", &BRANCH, 10, -5, 1000, due!(ok 1 2)),
-        sample!("the second branch", &BRANCH, 10, 5, 1000, due!(ok 2 2)),
-        sample!("less is strict", &BRANCH, 10, 0, 1000, due!(ok 2 2)),
-        sample!("the left operand first", &LEFT_FIRST, 10, 2147483647, 1000, due!(no Layer::Run(RunCause::Sum), 2)),
-        sample!("a sum below the range", &BELOW, 6, -2147483648, 1000, due!(no Layer::Run(RunCause::Sum), 2)),
-        sample!("the lowest number", &COPY, 4, -2147483648, 1000, due!(ok -2147483648 1)),
-        sample!("the highest sum", &NEXT, 6, 2147483646, 1000, due!(ok 2147483647 1)),
-        sample!("the sum is met before a unit is wanting", &FIRST_MET, 8, 2147483647, 2, due!(no Layer::Run(RunCause::Sum), 2)),
-        sample!("the unit is wanting before the sum is met", &FIRST_MET, 8, 2147483647, 1, due!(no Layer::Run(RunCause::Unit), 3)),
-        sample!("no allowance", &FIRST_MET, 8, 0, 0, due!(no Layer::Run(RunCause::Unit), 5)),
-        sample!("the last command wants a unit", &FIRST_MET, 8, 0, 2, due!(no Layer::Run(RunCause::Unit), 4)),
-        sample!("just enough units", &FIRST_MET, 8, 0, 3, due!(ok 1 3)),
-        sample!("a truth is kept", &TRUTHS, 11, 0, 1000, due!(ok 9 4)),
-        sample!("a truth begins false", &FALSE_FIRST, 10, 0, 1000, due!(ok 4 3)),
-        sample!("only the right operand true", &EITHER, 13, 3, 1000, due!(ok 1 2)),
-        sample!("only the left operand true", &EITHER, 13, -3, 1000, due!(ok 1 2)),
-        sample!("neither operand true", &EITHER, 13, 0, 1000, due!(ok 0 2)),
-        sample!("a variable hides the step", &HIDES_IN, 6, 5, 1000, due!(ok 0 2)),
-        sample!("a formal hides the result", &FORMAL_OUT, 11, 3, 1000, due!(ok 5 4)),
+        sample!("a block that declares a procedure again hides the outer one from its bodies": hidden, lists 11, step 0, allowance 1000, no names Procedure 4),
+        sample!("a body sees the variable of its procedure's name": one_name, lists 13, step 0, allowance 1000, ok 7 5),
+        sample!("commands see the procedure of a variable's name": name_taken, lists 8, step 0, allowance 1000, no names Variable 3),
+        sample!("arguments go to formals in order": order, lists 21, step 0, allowance 1000, ok 21 5),
+        sample!("two formals of one location": alias, lists 23, step 0, allowance 1000, ok 8 7),
+        sample!("a while never entered takes one unit": not_entered, lists 5, step 0, allowance 1000, ok 0 1),
+        sample!("calls inside calls": nested, lists 14, step 0, allowance 1000, ok 2 8),
+        sample!("the first branch": branch, lists 10, step -5, allowance 1000, ok 1 2),
+        sample!("the second branch": branch, lists 10, step 5, allowance 1000, ok 2 2),
+        sample!("less is strict": branch, lists 10, step 0, allowance 1000, ok 2 2),
+        sample!("the left operand first": left_first, lists 10, step 2147483647, allowance 1000, no run Sum 2),
+        sample!("a sum below the range": below, lists 6, step -2147483648, allowance 1000, no run Sum 2),
+        sample!("the lowest number": copy, lists 4, step -2147483648, allowance 1000, ok -2147483648 1),
+        sample!("the highest sum": next, lists 6, step 2147483646, allowance 1000, ok 2147483647 1),
+        sample!("the sum is met before a unit is wanting": first_met, lists 8, step 2147483647, allowance 2, no run Sum 2),
+        sample!("the unit is wanting before the sum is met": first_met, lists 8, step 2147483647, allowance 1, no run Unit 3),
+        sample!("no allowance": first_met, lists 8, step 0, allowance 0, no run Unit 5),
+        sample!("the last command wants a unit": first_met, lists 8, step 0, allowance 2, no run Unit 4),
+        sample!("just enough units": first_met, lists 8, step 0, allowance 3, ok 1 3),
+        sample!("a truth is kept": truths, lists 11, step 0, allowance 1000, ok 9 4),
+        sample!("a truth begins false": false_first, lists 10, step 0, allowance 1000, ok 4 3),
+        sample!("only the right operand true": either, lists 13, step 3, allowance 1000, ok 1 2),
+        sample!("only the left operand true": either, lists 13, step -3, allowance 1000, ok 1 2),
+        sample!("neither operand true": either, lists 13, step 0, allowance 1000, ok 0 2),
+        sample!("a variable hides the step": hides_in, lists 6, step 5, allowance 1000, ok 0 2),
+        sample!("a formal hides the result": formal_out, lists 11, step 3, allowance 1000, ok 5 4),
     ]
 }

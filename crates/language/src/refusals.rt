@@ -4,283 +4,55 @@ use crate::faults::Fault;
 use crate::faults::Layer;
 use crate::faults::NamesCause;
 use crate::faults::TableCause;
-use crate::samples::BLANK;
 use crate::samples::Sample;
 use crate::samples::due;
+use crate::samples::node;
+use crate::samples::nodes;
 use crate::samples::sample;
-use crate::tables::Kind;
 use crate::tables::Node;
 use crate::values::Graded;
-
-static EMPTY: [Node; 0] = [];
-
-static ONE_NODE: [Node; 1] = [
-    Node { kind: Kind::Null as u8, ..BLANK },
-];
-
-static KIND_15: [Node; 2] = [
-    Node { kind: Kind::Null as u8, ..BLANK },
-    Node { kind: 15, ..BLANK },
-];
-
-static KIND_255: [Node; 2] = [
-    Node { kind: Kind::Null as u8, ..BLANK },
-    Node { kind: 255, ..BLANK },
-];
-
-static ASSIGN_VALUE: [Node; 2] = [
-    Node { kind: Kind::Read as u8, ..BLANK },
-    Node { kind: 7, name: 1, value: 5, ..BLANK },
-];
-
-static TRUTH_2: [Node; 2] = [
-    Node { kind: Kind::Null as u8, ..BLANK },
-    Node { kind: 0, value: 2, ..BLANK },
-];
-
-static TRUTH_BELOW: [Node; 2] = [
-    Node { kind: Kind::Null as u8, ..BLANK },
-    Node { kind: 0, value: -1, ..BLANK },
-];
-
-static TYPE_2: [Node; 2] = [
-    Node { kind: Kind::Null as u8, ..BLANK },
-    Node { kind: 12, name: 3, value: 2, ..BLANK },
-];
-
-static PLUS_NAME: [Node; 3] = [
-    Node { kind: Kind::Whole as u8, value: 1, ..BLANK },
-    Node { kind: Kind::Whole as u8, value: 1, ..BLANK },
-    Node { kind: 3, name: 1, ..BLANK },
-];
-
-static NULL_A: [Node; 2] = [
-    Node { kind: Kind::Truth as u8, value: 1, ..BLANK },
-    Node { kind: 6, a: 1, ..BLANK },
-];
-
-static CALL_B: [Node; 2] = [
-    Node { kind: Kind::Truth as u8, value: 1, ..BLANK },
-    Node { kind: 10, name: 2, b: 1, ..BLANK },
-];
-
-static PROC_C: [Node; 2] = [
-    Node { kind: Kind::Null as u8, ..BLANK },
-    Node { kind: 13, name: 2, c: 1, ..BLANK },
-];
-
-static ONE_OPERAND: [Node; 2] = [
-    Node { kind: Kind::Read as u8, ..BLANK },
-    Node { kind: Kind::Plus as u8, ..BLANK },
-];
-
-static COMMAND_FOR_VALUE: [Node; 2] = [
-    Node { kind: Kind::Null as u8, ..BLANK },
-    Node { kind: Kind::Assign as u8, name: 1, ..BLANK },
-];
-
-static ARGUMENT_WANTING: [Node; 2] = [
-    Node { kind: Kind::Read as u8, ..BLANK },
-    Node { kind: Kind::Call as u8, name: 2, a: 1, ..BLANK },
-];
-
-static DECL_LAST: [Node; 3] = [
-    Node { kind: Kind::Null as u8, ..BLANK },
-    Node { kind: Kind::Decl as u8, name: 2, ..BLANK },
-    Node { kind: Kind::Block as u8, a: 1, c: 1, ..BLANK },
-];
-
-static TWO_COMMANDS: [Node; 2] = [
-    Node { kind: Kind::Null as u8, ..BLANK },
-    Node { kind: Kind::Null as u8, ..BLANK },
-];
-
-static VALUE_ALONE: [Node; 3] = [
-    Node { kind: Kind::Read as u8, ..BLANK },
-    Node { kind: Kind::Whole as u8, value: 1, ..BLANK },
-    Node { kind: Kind::Plus as u8, ..BLANK },
-];
-
-static TWO_VARIABLES: [Node; 3] = [
-    Node { kind: Kind::Decl as u8, name: 2, ..BLANK },
-    Node { kind: Kind::Decl as u8, name: 2, value: 1, ..BLANK },
-    Node { kind: Kind::Block as u8, a: 2, ..BLANK },
-];
-
-static TWO_FORMALS: [Node; 5] = [
-    Node { kind: Kind::Decl as u8, name: 2, ..BLANK },
-    Node { kind: Kind::Decl as u8, name: 2, ..BLANK },
-    Node { kind: Kind::Null as u8, ..BLANK },
-    Node { kind: Kind::Proc as u8, name: 3, a: 2, ..BLANK },
-    Node { kind: Kind::Block as u8, b: 1, ..BLANK },
-];
-
-static TWO_PROCS: [Node; 5] = [
-    Node { kind: Kind::Null as u8, ..BLANK },
-    Node { kind: Kind::Proc as u8, name: 2, ..BLANK },
-    Node { kind: Kind::Null as u8, ..BLANK },
-    Node { kind: Kind::Proc as u8, name: 2, ..BLANK },
-    Node { kind: Kind::Block as u8, b: 2, ..BLANK },
-];
-
-static BODY_FIRST: [Node; 6] = [
-    Node { kind: Kind::Null as u8, ..BLANK },
-    Node { kind: Kind::Proc as u8, name: 2, ..BLANK },
-    Node { kind: Kind::Read as u8, name: 9, ..BLANK },
-    Node { kind: Kind::Assign as u8, name: 1, ..BLANK },
-    Node { kind: Kind::Proc as u8, name: 2, ..BLANK },
-    Node { kind: Kind::Block as u8, b: 2, ..BLANK },
-];
-
-static ASSIGN_UNKNOWN: [Node; 2] = [
-    Node { kind: Kind::Whole as u8, value: 1, ..BLANK },
-    Node { kind: Kind::Assign as u8, name: 5, ..BLANK },
-];
-
-static ARGUMENT_UNKNOWN: [Node; 6] = [
-    Node { kind: Kind::Decl as u8, name: 2, ..BLANK },
-    Node { kind: Kind::Null as u8, ..BLANK },
-    Node { kind: Kind::Proc as u8, name: 3, a: 1, ..BLANK },
-    Node { kind: Kind::Argument as u8, name: 9, ..BLANK },
-    Node { kind: Kind::Call as u8, name: 3, a: 1, ..BLANK },
-    Node { kind: Kind::Block as u8, b: 1, c: 1, ..BLANK },
-];
-
-static CALL_UNKNOWN: [Node; 3] = [
-    Node { kind: Kind::Null as u8, ..BLANK },
-    Node { kind: Kind::Call as u8, name: 5, ..BLANK },
-    Node { kind: Kind::Block as u8, c: 2, ..BLANK },
-];
-
-static CALL_VARIABLE: [Node; 3] = [
-    Node { kind: Kind::Null as u8, ..BLANK },
-    Node { kind: Kind::Call as u8, name: 1, ..BLANK },
-    Node { kind: Kind::Block as u8, c: 2, ..BLANK },
-];
-
-static CALL_ITSELF: [Node; 6] = [
-    Node { kind: Kind::Null as u8, ..BLANK },
-    Node { kind: Kind::Call as u8, name: 2, ..BLANK },
-    Node { kind: Kind::Block as u8, c: 2, ..BLANK },
-    Node { kind: Kind::Proc as u8, name: 2, ..BLANK },
-    Node { kind: Kind::Null as u8, ..BLANK },
-    Node { kind: Kind::Block as u8, b: 1, c: 1, ..BLANK },
-];
-
-static TOO_FEW: [Node; 5] = [
-    Node { kind: Kind::Decl as u8, name: 2, ..BLANK },
-    Node { kind: Kind::Null as u8, ..BLANK },
-    Node { kind: Kind::Proc as u8, name: 3, a: 1, ..BLANK },
-    Node { kind: Kind::Call as u8, name: 3, ..BLANK },
-    Node { kind: Kind::Block as u8, b: 1, c: 1, ..BLANK },
-];
-
-static TOO_MANY: [Node; 5] = [
-    Node { kind: Kind::Null as u8, ..BLANK },
-    Node { kind: Kind::Proc as u8, name: 3, ..BLANK },
-    Node { kind: Kind::Argument as u8, name: 1, ..BLANK },
-    Node { kind: Kind::Call as u8, name: 3, a: 1, ..BLANK },
-    Node { kind: Kind::Block as u8, b: 1, c: 1, ..BLANK },
-];
-
-static TRUTH_IN_SUM: [Node; 4] = [
-    Node { kind: Kind::Whole as u8, value: 1, ..BLANK },
-    Node { kind: Kind::Truth as u8, value: 1, ..BLANK },
-    Node { kind: Kind::Plus as u8, ..BLANK },
-    Node { kind: Kind::Assign as u8, name: 1, ..BLANK },
-];
-
-static NUMBER_IN_OR: [Node; 6] = [
-    Node { kind: Kind::Truth as u8, value: 1, ..BLANK },
-    Node { kind: Kind::Whole as u8, value: 1, ..BLANK },
-    Node { kind: Kind::Or as u8, ..BLANK },
-    Node { kind: Kind::Null as u8, ..BLANK },
-    Node { kind: Kind::Null as u8, ..BLANK },
-    Node { kind: Kind::If as u8, ..BLANK },
-];
-
-static NUMBER_TEST: [Node; 4] = [
-    Node { kind: Kind::Whole as u8, value: 1, ..BLANK },
-    Node { kind: Kind::Null as u8, ..BLANK },
-    Node { kind: Kind::Null as u8, ..BLANK },
-    Node { kind: Kind::If as u8, ..BLANK },
-];
-
-static NUMBER_WHILE: [Node; 3] = [
-    Node { kind: Kind::Whole as u8, value: 1, ..BLANK },
-    Node { kind: Kind::Null as u8, ..BLANK },
-    Node { kind: Kind::While as u8, ..BLANK },
-];
-
-static TRUTH_ASSIGNED: [Node; 2] = [
-    Node { kind: Kind::Truth as u8, value: 1, ..BLANK },
-    Node { kind: Kind::Assign as u8, name: 1, ..BLANK },
-];
-
-static ARGUMENT_TYPE: [Node; 6] = [
-    Node { kind: Kind::Decl as u8, name: 2, value: 1, ..BLANK },
-    Node { kind: Kind::Null as u8, ..BLANK },
-    Node { kind: Kind::Proc as u8, name: 3, a: 1, ..BLANK },
-    Node { kind: Kind::Argument as u8, name: 1, ..BLANK },
-    Node { kind: Kind::Call as u8, name: 3, a: 1, ..BLANK },
-    Node { kind: Kind::Block as u8, b: 1, c: 1, ..BLANK },
-];
-
-static BRANCH_FIRST: [Node; 5] = [
-    Node { kind: Kind::Whole as u8, value: 1, ..BLANK },
-    Node { kind: Kind::Read as u8, name: 9, ..BLANK },
-    Node { kind: Kind::Assign as u8, name: 1, ..BLANK },
-    Node { kind: Kind::Null as u8, ..BLANK },
-    Node { kind: Kind::If as u8, ..BLANK },
-];
-
-static FORM_FIRST: [Node; 3] = [
-    Node { kind: Kind::Read as u8, name: 9, ..BLANK },
-    Node { kind: Kind::Assign as u8, name: 1, ..BLANK },
-    Node { kind: 15, ..BLANK },
-];
 
 // Every answer is the defined one: the contract is one equation over the whole list.
 pub fn refusal_samples() -> [Sample; 37]
     ensures answers_due { λ r. ⌜ As-due r ⌝ }
 {
     [
-        sample!("no nodes", &EMPTY, 2, 0, 1000, due!(no Layer::Table(TableCause::Length), 0)),
-        sample!("work lists one record short", &ONE_NODE, 2, 0, 1000, due!(no Layer::Table(TableCause::WorkLists), 0)),
-        sample!("kind 15", &KIND_15, 4, 0, 1000, due!(no Layer::Table(TableCause::Kind), 1)),
-        sample!("kind 255", &KIND_255, 4, 0, 1000, due!(no Layer::Table(TableCause::Kind), 1)),
-        sample!("a value that assign does not list", &ASSIGN_VALUE, 4, 0, 1000, due!(no Layer::Table(TableCause::Fields), 1)),
-        sample!("a truth of 2", &TRUTH_2, 4, 0, 1000, due!(no Layer::Table(TableCause::Fields), 1)),
-        sample!("a truth of -1", &TRUTH_BELOW, 4, 0, 1000, due!(no Layer::Table(TableCause::Fields), 1)),
-        sample!("a declaration of type 2", &TYPE_2, 4, 0, 1000, due!(no Layer::Table(TableCause::Fields), 1)),
-        sample!("a name that plus does not list", &PLUS_NAME, 5, 0, 1000, due!(no Layer::Table(TableCause::Fields), 2)),
-        sample!("a count that null does not list", &NULL_A, 4, 0, 1000, due!(no Layer::Table(TableCause::Fields), 1)),
-        sample!("a second count that call does not list", &CALL_B, 4, 0, 1000, due!(no Layer::Table(TableCause::Fields), 1)),
-        sample!("a third count that proc does not list", &PROC_C, 4, 0, 1000, due!(no Layer::Table(TableCause::Fields), 1)),
-        sample!("one operand wanting", &ONE_OPERAND, 4, 0, 1000, due!(no Layer::Table(TableCause::Pieces), 1)),
-        sample!("a command in place of an expression", &COMMAND_FOR_VALUE, 4, 0, 1000, due!(no Layer::Table(TableCause::Pieces), 1)),
-        sample!("an argument wanting", &ARGUMENT_WANTING, 4, 0, 1000, due!(no Layer::Table(TableCause::Pieces), 1)),
-        sample!("a declaration after the commands", &DECL_LAST, 5, 0, 1000, due!(no Layer::Table(TableCause::Pieces), 2)),
-        sample!("two commands", &TWO_COMMANDS, 4, 0, 1000, due!(no Layer::Table(TableCause::Whole), 1)),
-        sample!("an expression alone", &VALUE_ALONE, 5, 0, 1000, due!(no Layer::Table(TableCause::Whole), 2)),
-        sample!("two variables of one name", &TWO_VARIABLES, 5, 0, 1000, due!(no Layer::Names(NamesCause::Repeated), 1)),
-        sample!("two formals of one name", &TWO_FORMALS, 7, 0, 1000, due!(no Layer::Names(NamesCause::Repeated), 1)),
-        sample!("two procedures of one name", &TWO_PROCS, 7, 0, 1000, due!(no Layer::Names(NamesCause::Repeated), 3)),
-        sample!("a body is asked before its procedure's name", &BODY_FIRST, 8, 0, 1000, due!(no Layer::Names(NamesCause::Variable), 2)),
-        sample!("an assignment to no variable", &ASSIGN_UNKNOWN, 4, 0, 1000, due!(no Layer::Names(NamesCause::Variable), 1)),
-        sample!("an argument that is no variable", &ARGUMENT_UNKNOWN, 8, 0, 1000, due!(no Layer::Names(NamesCause::Variable), 3)),
-        sample!("a call of no procedure", &CALL_UNKNOWN, 5, 0, 1000, due!(no Layer::Names(NamesCause::Procedure), 1)),
-        sample!("a call of a variable", &CALL_VARIABLE, 5, 0, 1000, due!(no Layer::Names(NamesCause::Procedure), 1)),
-        sample!("a body does not see its own procedure", &CALL_ITSELF, 8, 0, 1000, due!(no Layer::Names(NamesCause::Procedure), 1)),
-        sample!("too few arguments", &TOO_FEW, 7, 0, 1000, due!(no Layer::Names(NamesCause::Arguments), 3)),
-        sample!("too many arguments", &TOO_MANY, 7, 0, 1000, due!(no Layer::Names(NamesCause::Arguments), 3)),
-        sample!("a truth in a sum", &TRUTH_IN_SUM, 6, 0, 1000, due!(no Layer::Names(NamesCause::Types), 2)),
-        sample!("a number in an or", &NUMBER_IN_OR, 8, 0, 1000, due!(no Layer::Names(NamesCause::Types), 2)),
-        sample!("a number as a test", &NUMBER_TEST, 6, 0, 1000, due!(no Layer::Names(NamesCause::Types), 3)),
-        sample!("a number as the test of a while", &NUMBER_WHILE, 5, 0, 1000, due!(no Layer::Names(NamesCause::Types), 2)),
-        sample!("a truth into a number", &TRUTH_ASSIGNED, 4, 0, 1000, due!(no Layer::Names(NamesCause::Types), 1)),
-        sample!("an argument's type belongs to the call", &ARGUMENT_TYPE, 8, 0, 1000, due!(no Layer::Names(NamesCause::Types), 4)),
-        sample!("a branch is asked before the test's type", &BRANCH_FIRST, 7, 0, 1000, due!(no Layer::Names(NamesCause::Variable), 1)),
-        sample!("every form is asked before any name", &FORM_FIRST, 5, 0, 1000, due!(no Layer::Table(TableCause::Kind), 2)),
+        sample!("no nodes": nodes![], lists 2, step 0, allowance 1000, no table Length 0),
+        sample!("work lists one record short": nodes![null], lists 2, step 0, allowance 1000, no table WorkLists 0),
+        sample!("kind 15": nodes![null, raw 15 0 0 0 0 0], lists 4, step 0, allowance 1000, no table Kind 1),
+        sample!("kind 255": nodes![null, raw 255 0 0 0 0 0], lists 4, step 0, allowance 1000, no table Kind 1),
+        sample!("a value that assign does not list": nodes![read 0, raw 7 1 5 0 0 0], lists 4, step 0, allowance 1000, no table Fields 1),
+        sample!("a truth of 2": nodes![null, raw 0 0 2 0 0 0], lists 4, step 0, allowance 1000, no table Fields 1),
+        sample!("a truth of -1": nodes![null, raw 0 0 -1 0 0 0], lists 4, step 0, allowance 1000, no table Fields 1),
+        sample!("a declaration of type 2": nodes![null, raw 12 3 2 0 0 0], lists 4, step 0, allowance 1000, no table Fields 1),
+        sample!("a name that plus does not list": nodes![whole 1, whole 1, raw 3 1 0 0 0 0], lists 5, step 0, allowance 1000, no table Fields 2),
+        sample!("a count that null does not list": nodes![truth 1, raw 6 0 0 1 0 0], lists 4, step 0, allowance 1000, no table Fields 1),
+        sample!("a second count that call does not list": nodes![truth 1, raw 10 2 0 0 1 0], lists 4, step 0, allowance 1000, no table Fields 1),
+        sample!("a third count that proc does not list": nodes![null, raw 13 2 0 0 0 1], lists 4, step 0, allowance 1000, no table Fields 1),
+        sample!("one operand wanting": nodes![read 0, plus], lists 4, step 0, allowance 1000, no table Pieces 1),
+        sample!("a command in place of an expression": nodes![null, assign 1], lists 4, step 0, allowance 1000, no table Pieces 1),
+        sample!("an argument wanting": nodes![read 0, call 2 1], lists 4, step 0, allowance 1000, no table Pieces 1),
+        sample!("a declaration after the commands": nodes![null, decl 2 0, block 1 0 1], lists 5, step 0, allowance 1000, no table Pieces 2),
+        sample!("two commands": nodes![null, null], lists 4, step 0, allowance 1000, no table Whole 1),
+        sample!("an expression alone": nodes![read 0, whole 1, plus], lists 5, step 0, allowance 1000, no table Whole 2),
+        sample!("two variables of one name": nodes![decl 2 0, decl 2 1, block 2 0 0], lists 5, step 0, allowance 1000, no names Repeated 1),
+        sample!("two formals of one name": nodes![decl 2 0, decl 2 0, null, proc 3 2, block 0 1 0], lists 7, step 0, allowance 1000, no names Repeated 1),
+        sample!("two procedures of one name": nodes![null, proc 2 0, null, proc 2 0, block 0 2 0], lists 7, step 0, allowance 1000, no names Repeated 3),
+        sample!("a body is asked before its procedure's name": nodes![null, proc 2 0, read 9, assign 1, proc 2 0, block 0 2 0], lists 8, step 0, allowance 1000, no names Variable 2),
+        sample!("an assignment to no variable": nodes![whole 1, assign 5], lists 4, step 0, allowance 1000, no names Variable 1),
+        sample!("an argument that is no variable": nodes![decl 2 0, null, proc 3 1, argument 9, call 3 1, block 0 1 1], lists 8, step 0, allowance 1000, no names Variable 3),
+        sample!("a call of no procedure": nodes![null, call 5 0, block 0 0 2], lists 5, step 0, allowance 1000, no names Procedure 1),
+        sample!("a call of a variable": nodes![null, call 1 0, block 0 0 2], lists 5, step 0, allowance 1000, no names Procedure 1),
+        sample!("a body does not see its own procedure": nodes![null, call 2 0, block 0 0 2, proc 2 0, null, block 0 1 1], lists 8, step 0, allowance 1000, no names Procedure 1),
+        sample!("too few arguments": nodes![decl 2 0, null, proc 3 1, call 3 0, block 0 1 1], lists 7, step 0, allowance 1000, no names Arguments 3),
+        sample!("too many arguments": nodes![null, proc 3 0, argument 1, call 3 1, block 0 1 1], lists 7, step 0, allowance 1000, no names Arguments 3),
+        sample!("a truth in a sum": nodes![whole 1, truth 1, plus, assign 1], lists 6, step 0, allowance 1000, no names Types 2),
+        sample!("a number in an or": nodes![truth 1, whole 1, or, null, null, if], lists 8, step 0, allowance 1000, no names Types 2),
+        sample!("a number as a test": nodes![whole 1, null, null, if], lists 6, step 0, allowance 1000, no names Types 3),
+        sample!("a number as the test of a while": nodes![whole 1, null, while], lists 5, step 0, allowance 1000, no names Types 2),
+        sample!("a truth into a number": nodes![truth 1, assign 1], lists 4, step 0, allowance 1000, no names Types 1),
+        sample!("an argument's type belongs to the call": nodes![decl 2 1, null, proc 3 1, argument 1, call 3 1, block 0 1 1], lists 8, step 0, allowance 1000, no names Types 4),
+        sample!("a branch is asked before the test's type": nodes![whole 1, read 9, assign 1, null, if], lists 7, step 0, allowance 1000, no names Variable 1),
+        sample!("every form is asked before any name": nodes![read 9, assign 1, raw 15 0 0 0 0 0], lists 5, step 0, allowance 1000, no table Kind 2),
     ]
 }
