@@ -18,4 +18,3 @@ pub mod Runs
 pub mod Laws
 pub mod Check
 pub mod Outcome
-pub mod Samples

@@ -1,14 +1,9 @@
 // The types that every layer shares, what a rule is and means, and the laws between these definitions.
-mod behaviour;
 mod faults;
 mod laws;
-mod lines;
-mod refusals;
-mod samples;
 mod tables;
 mod values;
 
-pub use behaviour::behaviour_samples;
 pub use faults::Fault;
 pub use faults::FaultPartialEq;
 pub use faults::Layer;
@@ -31,9 +26,6 @@ pub use laws::runs_are_sound;
 pub use laws::runs_exist;
 pub use laws::shifts_are_exact;
 pub use laws::tables_are_judged_exactly;
-pub use lines::sample_lines;
-pub use refusals::refusal_samples;
-pub use samples::Sample;
 pub use tables::Kind;
 pub use tables::KindPartialEq;
 pub use tables::Name;

@@ -1,8 +1,8 @@
 // What a sample rule is, and how one is written.
-use crate::faults::Fault;
-use crate::tables::Node;
-use crate::values::Graded;
-use crate::values::Number;
+use language::Fault;
+use language::Graded;
+use language::Node;
+use language::Number;
 
 // A table, the length of each work list, the step and the allowance to grade with, and the answer that is due.
 #[derive(Clone, Copy)]

@@ -1,16 +1,16 @@
 // The sample lines: rules, each with a step, an allowance and the answer that is due.
-ghost use Rattle.language.specs.Samples.{As-due};
-use crate::faults::Fault;
-use crate::faults::Layer;
-use crate::faults::NamesCause;
-use crate::faults::RunCause;
-use crate::samples::Sample;
-use crate::samples::due;
-use crate::samples::node;
-use crate::samples::nodes;
-use crate::samples::sample;
-use crate::tables::Node;
-use crate::values::Graded;
+ghost use Rattle.samples.specs.Samples.{As-due};
+use crate::entries::Sample;
+use crate::entries::due;
+use crate::entries::node;
+use crate::entries::nodes;
+use crate::entries::sample;
+use language::Fault;
+use language::Graded;
+use language::Layer;
+use language::NamesCause;
+use language::Node;
+use language::RunCause;
 
 // Every answer is the defined one: the contract is one equation over the whole list.
 pub fn sample_lines() -> [Sample; 14]

@@ -4,10 +4,10 @@ use mathlib.Core.List.{List, map}
 use Rattle.std.specs.declared.option.Option.{Option}
 use Rattle.std.specs.declared.option.Option.the-variants.{Some}
 use Rattle.std.specs.declared.result.Result.{Result}
 use Rattle.language.specs.declared.values.Graded.{Graded}
 use Rattle.language.specs.declared.faults.Fault.{Fault}
-use Rattle.language.specs.declared.samples.Sample.{Sample}
+use Rattle.samples.specs.declared.entries.Sample.{Sample}
 use Rattle.language.specs.Outcome.{outcome}
 
 -- the outcome of every sample is the one that is due: one equation of two lists
 abbrev pub As-due : List Sample → Type 0

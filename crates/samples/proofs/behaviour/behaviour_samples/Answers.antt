@@ -1,6 +1,6 @@
 -- Both lists compute.
 use mathlib.Core.Path.{refl}
-use Rattle.language.proofs.lines.sample_lines.Needs as need
+use Rattle.samples.proofs.behaviour.behaviour_samples.Needs as need
 
 pub returns : need.returns
 returns c = record { answers-due = refl }
