@@ -1,6 +1,6 @@
 -- Both lists compute.
 use mathlib.Core.Path.{refl}
-use Rattle.samples.proofs.refusals.refusal_samples.Needs as need
+use Rattle.samples.proofs.flow.flow_samples.Needs as need
 
 pub returns : need.returns
 returns c = record { answers-due = refl }

@@ -1,6 +1,6 @@
 -- Both lists compute.
 use mathlib.Core.Path.{refl}
-use Rattle.samples.proofs.behaviour.behaviour_samples.Needs as need
+use Rattle.samples.proofs.forms.form_refusals.Needs as need
 
 pub returns : need.returns
 returns c = record { answers-due = refl }

@@ -1,0 +1,6 @@
+-- Both lists compute.
+use mathlib.Core.Path.{refl}
+use Rattle.samples.proofs.misuses.name_refusals.Needs as need
+
+pub returns : need.returns
+returns c = record { answers-due = refl }
