@@ -23,6 +23,7 @@ use Rattle.language.specs.Names.{Entry, variable, procedure, all-alike, as-var
 use Rattle.language.specs.WellFormed as WF
 use Rattle.language.specs.WellFormed.{Attr, Has, Distinct, names, Args, WellFormed, Bodies, AllFormed, Formed}
 use Rattle.language.proofs.Types.{variable-found, procedure-found, alike-eq, alike-self, all-alike-eq, all-alike-self}
+use Rattle.language.proofs.Checked.{two-operands}
 use Rattle.language.proofs.Sameness.{same-swap}
 use Rattle.language.proofs.Binds.{bind-ok, asked-ok, no-ok}
 
@@ -75,23 +76,14 @@ has-type ρ (truth b) t h = cc
 has-type ρ (whole z) t h = cc
 has-type ρ (read i m) t h = is-variable i m ρ t h
 has-type ρ (plus i e f) t h =
-    let (u, p, q) = bind-ok (check-expr ρ e) _ t h in
-    let (v, r, s) = bind-ok (check-expr ρ f) _ t q in
-    let (w, z) = asked-ok (alike u wholes && alike v wholes) _ _ t s in
-    let (a, b) = and-parts (alike u wholes) (alike v wholes) w in
-    (subst (Has (erase ρ) e) (alike-eq u wholes a) (has-type ρ e u p), subst (Has (erase ρ) f) (alike-eq v wholes b) (has-type ρ f v r), cc)
+    let (p, q, r) = two-operands wholes wholes t _ (check-expr ρ e) (check-expr ρ f) h in
+    (has-type ρ e wholes p, has-type ρ f wholes q, sym r)
 has-type ρ (less i e f) t h =
-    let (u, p, q) = bind-ok (check-expr ρ e) _ t h in
-    let (v, r, s) = bind-ok (check-expr ρ f) _ t q in
-    let (w, z) = asked-ok (alike u wholes && alike v wholes) _ _ t s in
-    let (a, b) = and-parts (alike u wholes) (alike v wholes) w in
-    (subst (Has (erase ρ) e) (alike-eq u wholes a) (has-type ρ e u p), subst (Has (erase ρ) f) (alike-eq v wholes b) (has-type ρ f v r), cc)
+    let (p, q, r) = two-operands wholes truths t _ (check-expr ρ e) (check-expr ρ f) h in
+    (has-type ρ e wholes p, has-type ρ f wholes q, sym r)
 has-type ρ (or i e f) t h =
-    let (u, p, q) = bind-ok (check-expr ρ e) _ t h in
-    let (v, r, s) = bind-ok (check-expr ρ f) _ t q in
-    let (w, z) = asked-ok (alike u truths && alike v truths) _ _ t s in
-    let (a, b) = and-parts (alike u truths) (alike v truths) w in
-    (subst (Has (erase ρ) e) (alike-eq u truths a) (has-type ρ e u p), subst (Has (erase ρ) f) (alike-eq v truths b) (has-type ρ f v r), cc)
+    let (p, q, r) = two-operands truths truths t _ (check-expr ρ e) (check-expr ρ f) h in
+    (has-type ρ e truths p, has-type ρ f truths q, sym r)
 
 types-as : (ρ : Sight Entry) (e : Expr) (t : Scalar) → Has (erase ρ) e t → check-expr ρ e ≡ Ok t
 types-as ρ (truth b) t h = cc
@@ -101,7 +93,7 @@ types-as ρ (plus i e f) t h = rw (types-as ρ e wholes (h .0), types-as ρ f wh
 types-as ρ (less i e f) t h = rw (types-as ρ e wholes (h .0), types-as ρ f wholes (h .1)) (cc (h .2))
 types-as ρ (or i e f) t h = rw (types-as ρ e truths (h .0), types-as ρ f truths (h .1)) (cc (h .2))
 
--- names that differ from Some names
+-- names that differ from some names
 abbrev Apart : List ℕ → List ℕ → Type 0
 Apart seen [] = Unit {0}
 Apart seen (x ∷ xs) = (member x seen ≡ false) × Apart seen xs

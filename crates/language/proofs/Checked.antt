@@ -1,20 +1,35 @@
 -- What the check of a command that was accepted says of its parts.
 use mathlib.Core.Path.{_≡_, ap, _∙_}
-use mathlib.Core.Bool.{not}
+use mathlib.Core.Bool.{_&&_, not}
 use mathlib.Core.List.{List, [], _∷_}
 use Prim.Native.Nat.{ℕ, _+_, max}
 use lib.ListN.{length}
 use lib.Dec.{eqb}
 use Rattle.std.specs.declared.option.Option.the-variants.{Some}
-use Rattle.std.specs.declared.result.Result.the-variants.{Ok}
+use Rattle.std.specs.declared.result.Result.{Result}
+use Rattle.std.specs.declared.result.Result.the-variants.{Ok, Err}
+use Rattle.std.proofs.shelf.Tests.{and-parts}
+use Rattle.language.specs.declared.faults.Fault.{Fault}
+use Rattle.language.specs.Results.{_>>=_, asked}
 use Rattle.language.specs.declared.values.Scalar.{Scalar}
 use Rattle.language.specs.declared.values.Scalar.the-variants.{Truth as truths}
 use Rattle.language.specs.Values.{alike}
 use Rattle.language.specs.Sight.{Sight, look, member, without}
 use Rattle.language.specs.Tree.{Decl, Arg, Expr, Com, Procs, Coms, assign, if, while, call, block, pcons, ccons}
 use Rattle.language.specs.Names.{Entry, variable, procedure, all-alike, as-variable, as-procedure, check-expr, check-args, check-decls, types, variables, proc-names, check-com, check-procs, check-coms}
-use Rattle.language.proofs.Binds.{ok-is, bind-ok, asked-ok}
+use Rattle.language.proofs.Binds.{no-ok, ok-is, bind-ok, asked-ok}
 use Rattle.language.proofs.Types.{alike-eq, all-alike-eq, variable-found, procedure-found}
+
+-- an accepted operator has operands of its type
+pub two-operands : (w z t : Scalar) (f : Fault) (r₁ r₂ : Result Scalar Fault)
+    → (r₁ >>= λ a. r₂ >>= λ b. asked (alike a w && alike b w) f >>= λ _. Ok z) ≡ Ok t
+    → (r₁ ≡ Ok w) × (r₂ ≡ Ok w) × (z ≡ t)
+two-operands w z t f (Ok a) (Ok b) q =
+    let (h, g) = asked-ok (alike a w && alike b w) f (λ _. Ok z) t q in
+    let (p, r) = and-parts (alike a w) (alike b w) h in
+    (ap Ok (alike-eq a w p), ap Ok (alike-eq b w r), ok-is g)
+two-operands w z t f (Ok a) (Err e) q = absurd (no-ok _ t q)
+two-operands w z t f (Err e) r₂ q = absurd (no-ok _ t q)
 
 pub assign-parts : (Γ : Sight Entry) (i m : ℕ) (e : Expr) (n : ℕ) → check-com Γ (assign i m e) ≡ Ok n
     → (t : Scalar) × (check-expr Γ e ≡ Ok t) × (look m Γ ≡ Some (variable t))

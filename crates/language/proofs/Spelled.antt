@@ -14,7 +14,7 @@ use Rattle.language.specs.declared.tables.Node.{Node}
 use Rattle.language.specs.declared.values.Scalar.{Scalar}
 use Rattle.language.specs.declared.values.Scalar.the-variants.{Whole as wholes, Truth as truths}
 use Rattle.language.specs.Tree.{Decl, Arg, Expr, Com, Procs, Coms, truth, whole, read, plus, less, or, null, assign, if, while, call, block, pnil, pcons, cnil, ccons}
-use Rattle.language.specs.Results.{_>>=_}
+use Rattle.language.specs.Results.{_>>=_, _>>?_}
 use Rattle.language.specs.Table.{Piece, expr, comm, arg, dec, pro, Stack, asExpr, asCom, asArg, asDecl, asProc, pop, pops, build-from, only-com, build}
 use Rattle.language.specs.Spelling.{node, type-bit, spell-expr, spell-args, spell-decls, how-many-procs, how-many-coms, spell, spell-procs, spell-coms, size-expr, size, size-procs, size-coms, Numbered-expr, Numbered-args, Numbered-decls, Numbered, Numbered-procs, Numbered-coms, Spells}
 
@@ -38,85 +38,87 @@ builds-expr (or i e f) s rest st h =
     rw (append-assoc, append-assoc, builds-expr e s (spell-expr f ++ (node 5 0 (pos 0) 0 0 0 ∷ rest)) st (h .0), builds-expr f (s + size-expr e) (node 5 0 (pos 0) 0 0 0 ∷ rest) (expr e ∷ st) (h .1))
     (placed (λ i. expr (or i e f)) i (s + size-expr e + size-expr f) _ rest st (h .2) (omega arith))
 
--- pieces put on the stack one after another, and taken from it again
-abbrev push-args : List Arg → Stack → Stack
-push-args [] st = st
-push-args (x ∷ xs) st = push-args xs (arg x ∷ st)
-
-abbrev push-decls : List Decl → Stack → Stack
-push-decls [] st = st
-push-decls (d ∷ ds) st = push-decls ds (dec d ∷ st)
-
-abbrev push-procs : Procs → Stack → Stack
-push-procs pnil st = st
-push-procs (pcons i m fs c ps) st = push-procs ps (pro i m fs c ∷ st)
-
-abbrev push-coms : Coms → Stack → Stack
-push-coms cnil st = st
-push-coms (ccons c cs) st = push-coms cs (comm c ∷ st)
-
-abbrev join-procs : Procs → Procs → Procs
-join-procs pnil qs = qs
-join-procs (pcons i m fs c ps) qs = pcons i m fs c (join-procs ps qs)
-
-abbrev join-coms : Coms → Coms → Coms
-join-coms cnil ds = ds
-join-coms (ccons c cs) ds = ccons c (join-coms cs ds)
-
-join-pnil : (ps : Procs) → join-procs ps pnil ≡ ps
-join-pnil pnil = refl
-join-pnil (pcons i m fs c ps) = ap (pcons i m fs c) (join-pnil ps)
-
-join-cnil : (cs : Coms) → join-coms cs cnil ≡ cs
-join-cnil cnil = refl
-join-cnil (ccons c cs) = ap (ccons c) (join-cnil cs)
-
+-- pieces of one sort, put on the stack one after another, and taken from it again
 abbrev pub add-proc : (ℕ × ℕ × List Decl × Com) → Procs → Procs
 add-proc p ps = pcons (p .0) (p .1) (p .2) (p .3) ps
 
-pops-args : (b : List Arg) (k : ℕ) (a : List Arg) (st : Stack) → pops asArg _∷_ (length b + k) a (push-args b st) ≡ pops asArg _∷_ k (b ++ a) st
-pops-args [] k a st = ap (λ (j : ℕ). pops asArg _∷_ j a st) (omega arith)
-pops-args (x ∷ xs) k a st =
-    let e : length (x ∷ xs) + k ≡ length xs + suc k = omega arith in
-    ap (λ (j : ℕ). pops asArg _∷_ j a (push-args xs (arg x ∷ st))) e ∙ pops-args xs (suc k) a (arg x ∷ st)
+abbrev pushed : {A : Type 0} → (A → Piece) → List A → Stack → Stack
+pushed inj [] st = st
+pushed inj (x ∷ xs) st = pushed inj xs (inj x ∷ st)
+
+abbrev joined : {A B : Type 0} → (A → B → B) → List A → B → B
+joined f [] b = b
+joined f (x ∷ xs) b = f x (joined f xs b)
+
+module _ {A B : Type 0} (sort : Piece → Option A) (inj : A → Piece) (f : A → B → B) (is : (a : A) → sort (inj a) ≡ Some a) where
+  pop-one : (k : ℕ) (b : B) (st : Stack) (x : A) → pops sort f (suc k) b (inj x ∷ st) ≡ pops sort f k (f x b) st
+  pop-one k b st x =
+      ap (λ (o : Option A). (elim o as (λ _. Option (A × Stack)) [ None ↦ None | Some a ↦ Some (a, st) ]) >>? λ r. pops sort f k (f (r .0) b) (r .1)) (is x)
+
+  pops-some : (xs : List A) (k : ℕ) (b : B) (st : Stack) → pops sort f (length xs + k) b (pushed inj xs st) ≡ pops sort f k (joined f xs b) st
+  pops-some [] k b st = ap (λ (j : ℕ). pops sort f j b st) (omega arith)
+  pops-some (x ∷ xs) k b st =
+      let e : length (x ∷ xs) + k ≡ length xs + suc k = omega arith in
+      ap (λ (j : ℕ). pops sort f j b (pushed inj xs (inj x ∷ st))) e ∙ pops-some xs (suc k) b (inj x ∷ st) ∙ pop-one k (joined f xs b) st x
+
+  pops-all : (xs : List A) (n : ℕ) (b c : B) (st : Stack) → n ≡ length xs → joined f xs b ≡ c → pops sort f n b (pushed inj xs st) ≡ Some (c, st)
+  pops-all xs n b c st e h =
+      let q : n ≡ length xs + 0 = omega arith in
+      ap (λ (j : ℕ). pops sort f j b (pushed inj xs st)) q ∙ pops-some xs 0 b st ∙ ap (λ (x : B). Some (x, st)) h
+
+joined-list : {A : Type 0} (xs : List A) → joined _∷_ xs [] ≡ xs
+joined-list [] = refl
+joined-list (x ∷ xs) = ap (λ ys. x ∷ ys) (joined-list xs)
+
+-- procedures and commands as lists
+abbrev proc-list : Procs → List (ℕ × ℕ × List Decl × Com)
+proc-list pnil = []
+proc-list (pcons i m fs c ps) = (i, m, fs, c) ∷ proc-list ps
+
+abbrev com-list : Coms → List Com
+com-list cnil = []
+com-list (ccons c cs) = c ∷ com-list cs
+
+joined-procs : (ps : Procs) → joined add-proc (proc-list ps) pnil ≡ ps
+joined-procs pnil = refl
+joined-procs (pcons i m fs c ps) = ap (pcons i m fs c) (joined-procs ps)
+
+joined-coms : (cs : Coms) → joined ccons (com-list cs) cnil ≡ cs
+joined-coms cnil = refl
+joined-coms (ccons c cs) = ap (ccons c) (joined-coms cs)
+
+many-procs : (ps : Procs) → how-many-procs ps ≡ length (proc-list ps)
+many-procs pnil = refl
+many-procs (pcons i m fs c ps) = let e = many-procs ps in omega arith
+
+many-coms : (cs : Coms) → how-many-coms cs ≡ length (com-list cs)
+many-coms cnil = refl
+many-coms (ccons c cs) = let e = many-coms cs in omega arith
+
+abbrev push-args : List Arg → Stack → Stack
+push-args = pushed arg
+
+abbrev push-decls : List Decl → Stack → Stack
+push-decls = pushed dec
+
+abbrev push-procs : Procs → Stack → Stack
+push-procs ps = pushed (λ p. pro (p .0) (p .1) (p .2) (p .3)) (proc-list ps)
+
+abbrev push-coms : Coms → Stack → Stack
+push-coms cs = pushed comm (com-list cs)
 
 pops-all-args : (b : List Arg) (st : Stack) → pops asArg _∷_ (length b) [] (push-args b st) ≡ Some (b, st)
-pops-all-args b st =
-    let e : length b ≡ length b + 0 = omega arith in
-    ap (λ (j : ℕ). pops asArg _∷_ j [] (push-args b st)) e ∙ pops-args b 0 [] st ∙ ap (λ (x : List Arg). Some (x, st)) (append-nil b)
-
-pops-decls : (b : List Decl) (k : ℕ) (a : List Decl) (st : Stack) → pops asDecl _∷_ (length b + k) a (push-decls b st) ≡ pops asDecl _∷_ k (b ++ a) st
-pops-decls [] k a st = ap (λ (j : ℕ). pops asDecl _∷_ j a st) (omega arith)
-pops-decls (d ∷ ds) k a st =
-    let e : length (d ∷ ds) + k ≡ length ds + suc k = omega arith in
-    ap (λ (j : ℕ). pops asDecl _∷_ j a (push-decls ds (dec d ∷ st))) e ∙ pops-decls ds (suc k) a (dec d ∷ st)
+pops-all-args b st = pops-all asArg arg _∷_ (λ a. refl) b (length b) [] b st refl (joined-list b)
 
 pops-all-decls : (b : List Decl) (st : Stack) → pops asDecl _∷_ (length b) [] (push-decls b st) ≡ Some (b, st)
-pops-all-decls b st =
-    let e : length b ≡ length b + 0 = omega arith in
-    ap (λ (j : ℕ). pops asDecl _∷_ j [] (push-decls b st)) e ∙ pops-decls b 0 [] st ∙ ap (λ (x : List Decl). Some (x, st)) (append-nil b)
-
-pops-procs : (b : Procs) (k : ℕ) (a : Procs) (st : Stack) → pops asProc add-proc (how-many-procs b + k) a (push-procs b st) ≡ pops asProc add-proc k (join-procs b a) st
-pops-procs pnil k a st = ap (λ (j : ℕ). pops asProc add-proc j a st) (omega arith)
-pops-procs (pcons i m fs c ps) k a st =
-    let e : how-many-procs (pcons i m fs c ps) + k ≡ how-many-procs ps + suc k = omega arith in
-    ap (λ (j : ℕ). pops asProc add-proc j a (push-procs ps (pro i m fs c ∷ st))) e ∙ pops-procs ps (suc k) a (pro i m fs c ∷ st)
+pops-all-decls b st = pops-all asDecl dec _∷_ (λ a. refl) b (length b) [] b st refl (joined-list b)
 
 pops-all-procs : (b : Procs) (st : Stack) → pops asProc add-proc (how-many-procs b) pnil (push-procs b st) ≡ Some (b, st)
 pops-all-procs b st =
-    let e : how-many-procs b ≡ how-many-procs b + 0 = omega arith in
-    ap (λ (j : ℕ). pops asProc add-proc j pnil (push-procs b st)) e ∙ pops-procs b 0 pnil st ∙ ap (λ (x : Procs). Some (x, st)) (join-pnil b)
-
-pops-coms : (b : Coms) (k : ℕ) (a : Coms) (st : Stack) → pops asCom ccons (how-many-coms b + k) a (push-coms b st) ≡ pops asCom ccons k (join-coms b a) st
-pops-coms cnil k a st = ap (λ (j : ℕ). pops asCom ccons j a st) (omega arith)
-pops-coms (ccons c cs) k a st =
-    let e : how-many-coms (ccons c cs) + k ≡ how-many-coms cs + suc k = omega arith in
-    ap (λ (j : ℕ). pops asCom ccons j a (push-coms cs (comm c ∷ st))) e ∙ pops-coms cs (suc k) a (comm c ∷ st)
+    pops-all asProc (λ p. pro (p .0) (p .1) (p .2) (p .3)) add-proc (λ a. refl) (proc-list b) (how-many-procs b) pnil b st (many-procs b) (joined-procs b)
 
 pops-all-coms : (b : Coms) (st : Stack) → pops asCom ccons (how-many-coms b) cnil (push-coms b st) ≡ Some (b, st)
-pops-all-coms b st =
-    let e : how-many-coms b ≡ how-many-coms b + 0 = omega arith in
-    ap (λ (j : ℕ). pops asCom ccons j cnil (push-coms b st)) e ∙ pops-coms b 0 cnil st ∙ ap (λ (x : Coms). Some (x, st)) (join-cnil b)
+pops-all-coms b st = pops-all asCom comm ccons (λ a. refl) (com-list b) (how-many-coms b) cnil b st (many-coms b) (joined-coms b)
 
 builds-args : (xs : List Arg) (s : ℕ) (rest : List Node) (st : Stack) → Numbered-args s xs
     → build-from s (spell-args xs ++ rest) st ≡ build-from (s + length xs) rest (push-args xs st)

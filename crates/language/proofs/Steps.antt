@@ -1,7 +1,7 @@
 -- The small steps: reading, writing, taking and releasing locations, and the value of an expression.
 use mathlib.Core.Path.{_≡_, refl, sym, ap, subst, _∙_}
 use mathlib.Core.Logic.{_⊎_, inl, inr}
-use mathlib.Core.Bool.{Bool, true, false, cond, _&&_}
+use mathlib.Core.Bool.{Bool, true, false, cond}
 use mathlib.Core.List.{List, [], _∷_}
 use mathlib.Core.Option.{Option as Found, some, none}
 use Prim.Native.Nat.{ℕ, zero, suc, _+_, _≤_, _<_}
@@ -13,17 +13,15 @@ use Rattle.std.specs.declared.option.Option.{Option}
 use Rattle.std.specs.declared.option.Option.the-variants.{Some, None}
 use Rattle.std.specs.declared.result.Result.{Result}
 use Rattle.std.specs.declared.result.Result.the-variants.{Ok, Err}
-use Rattle.std.proofs.shelf.Tests.{and-parts}
 use Rattle.language.specs.declared.values.Scalar.{Scalar}
 use Rattle.language.specs.declared.values.Scalar.the-variants.{Whole as wholes, Truth as truths}
 use Rattle.language.specs.declared.values.Value.{Value}
 use Rattle.language.specs.declared.values.Value.the-variants.{Whole as whole-value, Truth as truth-value}
 use Rattle.language.specs.declared.values.Stop.{Stop}
 use Rattle.language.specs.declared.values.Stop.the-variants.{Sum, Stuck}
-use Rattle.language.specs.declared.faults.Fault.{Fault}
 use Rattle.language.specs.Values.{fits, sort, alike, first-value, sum, less-than, either-true}
 use Rattle.language.specs.Results as Q
-use Rattle.language.specs.Results.{asked, orElse}
+use Rattle.language.specs.Results.{orElse}
 use Rattle.language.specs.Memory.{Memory, put, live}
 use Rattle.language.specs.Stack.{value-at, with-value}
 use Rattle.language.specs.Sight.{Sight, look, Bound, find, placed}
@@ -33,8 +31,9 @@ use Rattle.language.specs.Names.{Entry, variable, procedure, types, as-variabl
 use Rattle.language.specs.Reference as R
 use Rattle.language.specs.Runs as M
 use Rattle.language.specs.Runs.{Out, ended, stopped, Step, Env, give, stop, answered, fetch, change, take-one, take-all, release, release-all, located, locations}
-use Rattle.language.proofs.Binds.{no-ok, ok-is, bind-ok, asked-ok}
-use Rattle.language.proofs.Types.{alike-eq, alike-self, variable-found}
+use Rattle.language.proofs.Binds.{no-ok, ok-is, bind-ok}
+use Rattle.language.proofs.Types.{alike-self, variable-found}
+use Rattle.language.proofs.Checked.{two-operands}
 use Rattle.language.proofs.Sim.{Sim, Agree, stops, ends, bind, gives, answers, sum≢stuck, end≢stop, moved}
 use Rattle.language.proofs.World.{overlay, Typed, Fine, Where, pushed, reads, writes, free, counts, Live, cleared, room-left}
 use Rattle.language.proofs.Names.{Rel, a-variable, a-procedure, Related, Matched, places, Runs, Back}
@@ -123,17 +122,6 @@ truth-sim σ u (whole-value z) e = truths≢wholes (sym e)
 pub whole-sim : {limit : ℕ} {B : Memory → Type 0} (σ : Memory) (u : ℕ) (v : Value) → sort v ≡ wholes → Yields {A = ℤ} {X = ℤ} limit B σ u (λ a b. a ≡ b) (answered (R.as-whole v)) (R.as-whole v)
 whole-sim σ u (whole-value z) e = gives z _ _ _ z refl refl refl
 whole-sim σ u (truth-value b) e = truths≢wholes e
-
--- an accepted operator has operands of its type
-two-operands : (w z t : Scalar) (f : Fault) (r₁ r₂ : Result Scalar Fault)
-    → Q._>>=_ r₁ (λ a. Q._>>=_ r₂ (λ b. Q._>>=_ (asked (alike a w && alike b w) f) (λ _. Ok z))) ≡ Ok t
-    → (r₁ ≡ Ok w) × (r₂ ≡ Ok w) × (z ≡ t)
-two-operands w z t f (Ok a) (Ok b) q =
-    let (h, g) = asked-ok (alike a w && alike b w) f (λ _. Ok z) t q in
-    let (p, r) = and-parts (alike a w) (alike b w) h in
-    (ap Ok (alike-eq a w p), ap Ok (alike-eq b w r), ok-is g)
-two-operands w z t f (Ok a) (Err e) q = absurd (no-ok _ t q)
-two-operands w z t f (Err e) r₂ q = absurd (no-ok _ t q)
 
 binary : {limit : ℕ} {B : Memory → Type 0} {σ : Memory} {u : ℕ} {t : Scalar} (w z : Scalar) (m₁ m₂ : Step Value) (x₁ x₂ : Result Value Stop) (op : Value → Value → Result Value Stop)
     → B σ → Yields limit B σ u (OfType w) m₁ x₁ → Yields limit B σ u (OfType w) m₂ x₂ → ((a b : Value) → sort a ≡ w → sort b ≡ w → Works (op a b) z) → z ≡ t
