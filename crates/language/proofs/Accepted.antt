@@ -2,20 +2,18 @@
 use mathlib.Core.List.{List, [], _∷_}
 use mathlib.Core.Path.{_≡_, refl, sym, subst, subst⁻¹, _∙_, ap}
 use mathlib.Core.Logic.{_↔_}
-use mathlib.Core.Bool.{Bool, true, false, _&&_, _||_, not, cond}
+use mathlib.Core.Bool.{Bool, true, false, not, cond}
 use Rattle.std.specs.declared.option.Option.{Option}
 use Rattle.std.specs.declared.option.Option.the-variants.{Some, None}
-use Rattle.std.specs.declared.result.Result.{Result}
-use Rattle.std.specs.declared.result.Result.the-variants.{Ok, Err}
-use Prim.Native.Nat.{ℕ, zero, suc, _+_, max}
+use Rattle.std.specs.declared.result.Result.the-variants.{Ok}
+use Prim.Native.Nat.{ℕ, _+_, max}
 use native.Mathlib.Omega.{arith}
 use lib.Dec.{eqb}
 use lib.ListN.{length}
-use Rattle.std.proofs.shelf.Tests.{and-parts, or-parts, or-from, eq-eqb, eqb-true, not-true, not-from-false, false≢true}
+use Rattle.std.proofs.shelf.Tests.{or-parts, or-from, eq-eqb, not-true}
 use Rattle.language.specs.declared.values.Scalar.{Scalar}
 use Rattle.language.specs.declared.values.Scalar.the-variants.{Whole as wholes, Truth as truths}
 use Rattle.language.specs.Tree.{Decl, Arg, Expr, Com, Procs, Coms, truth, whole, read, plus, less, or, null, assign, if, while, call, block, pnil, pcons, cnil, ccons}
-use Rattle.language.specs.Results.{_>>=_, asked}
 use Rattle.language.specs.Values.{alike}
 use Rattle.language.specs.Same.{same}
 use Rattle.language.specs.Sight.{Sight, look, member, without}
@@ -25,7 +23,7 @@ use Rattle.language.specs.WellFormed.{Attr, Has, Distinct, names, Args, WellFo
 use Rattle.language.proofs.Types.{variable-found, procedure-found, alike-eq, alike-self, all-alike-eq, all-alike-self}
 use Rattle.language.proofs.Checked.{two-operands}
 use Rattle.language.proofs.Sameness.{same-swap}
-use Rattle.language.proofs.Binds.{bind-ok, asked-ok, no-ok}
+use Rattle.language.proofs.Binds.{bind-ok, asked-ok}
 
 abbrev pub erase-entry : Entry → Attr
 erase-entry (variable t) = WF.variable t

@@ -1,11 +1,11 @@
 -- The reference and the meaning of commands: the meaning's trace settles what the reference answers.
 use mathlib.Core.List.{List, [], _∷_, _++_, append-nil}
-use mathlib.Core.Path.{_≡_, refl, sym, subst, subst⁻¹, _∙_, ap, ap₂}
-use mathlib.Core.Logic.{_↔_, _⊎_, inl, inr}
+use mathlib.Core.Path.{_≡_, refl, sym, subst, subst⁻¹, _∙_, ap}
+use mathlib.Core.Logic.{_⊎_, inl, inr}
 use mathlib.Core.Bool.{Bool, true, false, cond}
-use Prim.Native.Nat.{ℕ, zero, suc, _+_, _-_, _≤_, _<_}
+use Prim.Native.Nat.{ℕ, zero, suc, _+_, _-_, _≤_}
 use native.Mathlib.Omega.{arith}
-use lib.ListN.{length, drop, getD}
+use lib.ListN.{length}
 use lib.IntN.{ℤ, pos}
 use Rattle.std.specs.declared.option.Option.{Option}
 use Rattle.std.specs.declared.option.Option.the-variants.{Some, None}
@@ -18,14 +18,13 @@ use Rattle.language.specs.declared.values.Stop.the-variants.{Unit as Unit-stop
 use Rattle.language.specs.declared.values.Graded.{Graded}
 use Rattle.language.specs.Values.{sort, alike}
 use Rattle.language.specs.Results.{_>>=_, orElse}
-use Rattle.language.specs.Sight.{Env, find, placed}
-use Rattle.language.specs.Sight as S
+use Rattle.language.specs.Sight.{Env, placed}
 use Rattle.language.specs.Stack.{Stack, value-at, with-value}
 use Rattle.language.specs.Tree.{Decl, Arg, Expr, Com, Procs, Coms, null, assign, if, while, call, block, pnil, pcons, cnil, ccons}
 use Rattle.language.specs.Reference as R
 use Rattle.language.specs.Reference.{Found, nothing, a-place, a-proc, located, write, as-truth, as-whole, allot, procs, bind-formals, called, eval, node-of, Left, each, exec, graded, finished, answer}
-use Rattle.language.specs.Meaning.{Event, begins, Trace, Effect, Place, Places, Invoked, value, means, means-all, procedures, fresh, Loop, leaves, again, Means}
-use Rattle.language.specs.Laws.{commands, units, All-fit, spend, Gives-exactly, Settled, Steady}
+use Rattle.language.specs.Meaning.{begins, Trace, Effect, Places, Invoked, value, means, means-all, procedures, fresh, Loop, leaves, again, Means}
+use Rattle.language.specs.Laws.{units, All-fit, spend, Gives-exactly, Settled, Steady}
 use Rattle.language.proofs.Binds.{no-ok, ok-is, bind-ok, or-else-ok}
 use Rattle.language.proofs.Types.{alike-eq, alike-self}
 use Rattle.language.proofs.Traces.{spend-append, paid, pays, falls-short}

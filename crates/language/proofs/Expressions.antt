@@ -1,23 +1,20 @@
 -- The names in sight of the reference, read as meanings; and what an expression gives, in both.
-use mathlib.Core.List.{List, [], _∷_, _++_, append-nil}
+use mathlib.Core.List.{[], _∷_, _++_, append-nil}
 use mathlib.Core.Path.{_≡_, refl, sym, subst, subst⁻¹, _∙_, ap}
 use mathlib.Core.Bool.{Bool, true, false, _||_, cond}
 use mathlib.Core.Option.{Option as Found-by, some, none}
-use Prim.Native.Nat.{ℕ, zero, suc, _+_}
-use native.Mathlib.Omega.{arith}
+use Prim.Native.Nat.{ℕ, _+_}
 use lib.ListN.{length}
 use lib.IntN.{ℤ, _+ℤ_}
 use lib.Signed.{ltZ}
-use Rattle.std.specs.declared.option.Option.{Option}
-use Rattle.std.specs.declared.option.Option.the-variants.{Some, None}
 use Rattle.std.specs.declared.result.Result.{Result}
 use Rattle.std.specs.declared.result.Result.the-variants.{Ok, Err}
 use Rattle.language.specs.declared.values.Value.{Value}
 use Rattle.language.specs.declared.values.Value.the-variants.{Whole as whole-value, Truth as truth-value}
 use Rattle.language.specs.declared.values.Stop.{Stop}
-use Rattle.language.specs.declared.values.Stop.the-variants.{Sum, Stuck}
+use Rattle.language.specs.declared.values.Stop.the-variants.{Sum}
 use Rattle.language.specs.Values.{fits, sum, less-than, either-true}
-use Rattle.language.specs.Results.{_>>=_, orElse}
+use Rattle.language.specs.Results.{_>>=_}
 use Rattle.language.specs.Same.{same}
 use Rattle.language.specs.Sight.{Bound, Env, find, placed}
 use Rattle.language.specs.Sight as S
@@ -25,7 +22,7 @@ use Rattle.language.specs.Stack.{Stack, value-at}
 use Rattle.language.specs.Tree.{Expr, truth, whole, read, plus, less, or}
 use Rattle.language.specs.Reference as R
 use Rattle.language.specs.Reference.{Found, nothing, a-place, a-proc, located, eval}
-use Rattle.language.specs.Meaning.{Event, begins, adds, Trace, Effect, Place, value, means}
+use Rattle.language.specs.Meaning.{adds, Trace, Effect, Place, value, means}
 use Rattle.language.specs.Laws.{spend}
 use Rattle.language.proofs.Binds.{no-ok, ok-is, bind-ok, or-else-ok}
 use Rattle.language.proofs.Traces.{spend-append}

@@ -1,14 +1,11 @@
 -- All questions of check together.
-use mathlib.Core.Path.{_≡_, refl, sym, ap, subst, _∙_}
-use mathlib.Core.Logic.{_↔_}
+use mathlib.Core.Path.{_≡_, refl, ap, subst}
 use mathlib.Core.Bool.{true, _&&_}
-use mathlib.Core.List.{List}
 use Prim.Native.Nat.{ℕ, _+_, _≤_}
 use lib.ListN.{length}
 use lib.Dec.{leb}
 use Rattle.std.specs.declared.result.Result.the-variants.{Ok}
 use Rattle.std.proofs.shelf.Tests.{and-parts, and-from, leb-true, le-leb}
-use Rattle.language.specs.declared.tables.Node.{Node}
 use Rattle.language.specs.Tree.{Com}
 use Rattle.language.specs.Table.{build}
 use Rattle.language.specs.Spelling.{Spells}

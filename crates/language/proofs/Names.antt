@@ -1,12 +1,12 @@
 -- The names in sight in the check, in a run on any store, and in the reference: related name by name.
-use mathlib.Core.Path.{_≡_, refl, sym, ap, subst, _∙_}
-use mathlib.Core.Logic.{_⊎_, inl, inr}
+use mathlib.Core.Path.{_≡_, refl, sym, subst, _∙_}
+use mathlib.Core.Logic.{inl, inr}
 use mathlib.Core.Bool.{Bool, true, false, cond}
 use mathlib.Core.List.{List, [], _∷_}
-use mathlib.Core.Option.{Option as Found, some, none}
-use Prim.Native.Nat.{ℕ, zero, suc, _+_, _≤_, _<_}
+use mathlib.Core.Option.{Option as Found, some}
+use Prim.Native.Nat.{ℕ, _+_, _≤_}
 use native.Mathlib.Omega.{arith}
-use lib.ListN.{length, drop}
+use lib.ListN.{length}
 use Rattle.std.specs.declared.option.Option.{Option}
 use Rattle.std.specs.declared.option.Option.the-variants.{Some, None}
 use Rattle.std.specs.declared.result.Result.{Result}
@@ -19,11 +19,11 @@ use Rattle.language.specs.Same.{same}
 use Rattle.language.specs.Memory.{Memory, live}
 use Rattle.language.specs.Sight.{Sight, look, member, without, Bound, find, placed}
 use Rattle.language.specs.Sight as S
-use Rattle.language.specs.Tree.{Decl, Arg, Com}
+use Rattle.language.specs.Tree.{Decl, Com}
 use Rattle.language.specs.Names.{Entry, variable, procedure, types, variables}
 use Rattle.language.specs.Reference as R
 use Rattle.language.specs.Runs.{Step, Env}
-use Rattle.language.proofs.Binds.{no-some, some-is}
+use Rattle.language.proofs.Binds.{no-some}
 use Rattle.language.proofs.Sameness.{member-through}
 use Rattle.language.proofs.Sim.{Sim}
 use Rattle.language.proofs.World.{overlay, Typed, Fine, Where, pushed}

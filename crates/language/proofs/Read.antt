@@ -5,22 +5,21 @@ use mathlib.Core.Logic.{_↔_}
 use mathlib.Core.Bool.{Bool, true, false, cond, _&&_, _||_}
 use Rattle.std.specs.declared.option.Option.{Option}
 use Rattle.std.specs.declared.option.Option.the-variants.{Some, None}
-use Rattle.std.specs.declared.result.Result.{Result}
-use Rattle.std.specs.declared.result.Result.the-variants.{Ok, Err}
+use Rattle.std.specs.declared.result.Result.the-variants.{Ok}
 use Prim.Native.Nat.{ℕ, zero, suc, _+_, pred}
 use native.Mathlib.Omega.{arith}
-use lib.Dec.{eqb, ltb}
-use lib.ListN.{length, getD}
+use lib.Dec.{eqb}
+use lib.ListN.{length}
 use lib.IntN.{ℤ, pos, negsuc}
 use Rattle.std.proofs.shelf.Tests.{and-parts, ltb-true, eqb-true, false≢true}
 use Rattle.language.specs.declared.tables.Node.{Node}
 use Rattle.language.specs.declared.values.Scalar.{Scalar}
 use Rattle.language.specs.declared.values.Scalar.the-variants.{Whole as wholes, Truth as truths}
-use Rattle.language.specs.Tree.{Decl, Arg, Expr, Com, Procs, Coms, truth, whole, read, plus, less, or, null, assign, if, while, call, block, pnil, pcons, cnil, ccons}
+use Rattle.language.specs.Tree.{Decl, Arg, Expr, Com, Procs, Coms, truth, whole, read, plus, less, or, null, assign, if, while, call, block, pnil, cnil, ccons}
 use Rattle.language.specs.declared.tables.Kind.{Kind}
 use Rattle.language.specs.declared.tables.Kind.the-variants.{Truth, Whole, Read, Plus, Less, Or, Null, Assign, If, While, Call, Argument, Decl as Decl-kind, Proc, Block}
 use Rattle.language.specs.Kinds.{withNumber, numbered}
-use Rattle.language.specs.Results.{_>>=_, _>>?_, asked, orElse}
+use Rattle.language.specs.Results.{orElse}
 use Rattle.language.specs.Table.{Piece, expr, comm, arg, dec, pro, Stack, typeOf, asExpr, asCom, asArg, asDecl, asProc, pop, pops, two, take-pieces, isZero, isBit, fields-ok, formed, node-step, build-from, only-com, build}
 use Rattle.language.specs.Spelling.{node, type-bit, spell-expr, spell-args, spell-decls, how-many-procs, how-many-coms, spell, spell-procs, spell-coms, size-expr, size, size-procs, size-coms, Numbered-expr, Numbered-args, Numbered-decls, Numbered, Numbered-procs, Numbered-coms, Spells}
 use Rattle.language.proofs.Binds.{bind-ok, asked-ok, no-ok, no-some, some-is, bind-some, or-else-ok}

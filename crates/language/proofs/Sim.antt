@@ -1,6 +1,6 @@
 -- Steps of a run on any store, held to outcomes of the reference: each outcome of the step is the reference's.
 use mathlib.Core.Path.{_≡_, refl, sym, ap, subst, _∙_}
-use mathlib.Core.Logic.{_⊎_, inl, inr}
+use mathlib.Core.Logic.{inl, inr}
 use mathlib.Core.List.{List}
 use Prim.Native.Nat.{ℕ, zero, suc, _≤_}
 use native.Mathlib.Omega.{arith}
@@ -12,7 +12,7 @@ use Rattle.language.specs.Memory.{Memory}
 use Rattle.language.specs.Results as R
 use Rattle.language.specs.Runs as M
 use Rattle.language.specs.Runs.{Out, ended, stopped, Step, give, stop, answered, tick, release-all, _releasing_}
-use Rattle.language.proofs.Binds.{no-ok, ok-is}
+use Rattle.language.proofs.Binds.{no-ok}
 
 -- an outcome of the step and one of the reference: both stop alike, never stuck, with a store of which B holds; or both end, with the store and the units that are named
 pub data Agree {A X : Type 0} (B : Memory → Type 0) (mem : A → X → Memory) (left : A → X → ℕ) (T : A → X → Type 0) (o : Out A) (x : Result X Stop) : Type 0 where

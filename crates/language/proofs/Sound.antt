@@ -1,26 +1,24 @@
 -- Every run of an accepted rule, on any store with room for its need, is the reference's.
 use mathlib.Core.Path.{_≡_, refl, sym, ap, subst, _∙_}
-use mathlib.Core.Logic.{_⊎_, inl, inr}
+use mathlib.Core.Logic.{inl, inr}
 use mathlib.Core.Bool.{Bool, true, false, cond}
 use mathlib.Core.List.{List, [], _∷_}
-use mathlib.Core.Option.{Option as Found, some, none}
-use Prim.Native.Nat.{ℕ, zero, suc, _+_, _-_, _≤_, max}
+use mathlib.Core.Option.{Option as Found}
+use Prim.Native.Nat.{ℕ, zero, suc, _+_, _-_, _≤_}
 use native.Mathlib.Omega.{arith}
 use lib.ListN.{length, drop}
 use lib.Dec.{eqb}
 use lib.IntN.{ℤ, pos}
-use Rattle.std.specs.declared.option.Option.{Option}
-use Rattle.std.specs.declared.option.Option.the-variants.{Some, None}
+use Rattle.std.specs.declared.option.Option.the-variants.{None}
 use Rattle.std.specs.declared.result.Result.{Result}
 use Rattle.std.specs.declared.result.Result.the-variants.{Ok, Err}
 use Rattle.std.proofs.shelf.Tests.{eq-eqb}
 use Rattle.language.specs.declared.values.Scalar.{Scalar}
 use Rattle.language.specs.declared.values.Scalar.the-variants.{Whole as wholes, Truth as truths}
 use Rattle.language.specs.declared.values.Value.{Value}
-use Rattle.language.specs.declared.values.Value.the-variants.{Whole as whole-value, Truth as truth-value}
+use Rattle.language.specs.declared.values.Value.the-variants.{Whole as whole-value}
 use Rattle.language.specs.declared.values.Stop.{Stop}
 use Rattle.language.specs.declared.values.Stop.the-variants.{Unit as Unit-stop, Stuck}
-use Rattle.language.specs.declared.values.Graded.{Graded}
 use Rattle.language.specs.Results as Q
 use Rattle.language.specs.Results.{orElse}
 use Rattle.language.specs.Memory.{Memory, live}
@@ -28,7 +26,7 @@ use Rattle.language.specs.Stack.{value-at}
 use Rattle.language.specs.Sight.{Sight, look, Bound, find, placed}
 use Rattle.language.specs.Sight as S
 use Rattle.language.specs.Tree.{Decl, Arg, Expr, Com, Procs, Coms, null, assign, if, while, call, block, pnil, pcons, cnil, ccons}
-use Rattle.language.specs.Names.{Entry, variable, procedure, types, variables, proc-names, check-expr, check-com, check-procs, check-coms, outset}
+use Rattle.language.specs.Names.{Entry, variable, procedure, types, proc-names, check-expr, check-com, check-procs, check-coms, outset}
 use Rattle.language.specs.Reference as R
 use Rattle.language.specs.Reference.{graded, answer}
 use Rattle.language.specs.Runs as M
@@ -37,9 +35,9 @@ use Rattle.language.specs.Counting.{live-none}
 use Rattle.language.specs.Laws.{As-answered, Sound-runs, Runs-exist, Never-stuck}
 use Rattle.language.proofs.Binds.{no-ok, no-some, ok-is, bind-ok}
 use Rattle.language.proofs.Checked.{assign-parts, if-parts, while-parts, call-parts, block-parts, procs-parts, coms-parts}
-use Rattle.language.proofs.Sim.{Sim, Agree, stops, ends, bind, gives, halts, begins, begins-suc, begins-zero, ticks, weaker, releases, end≢stop, stop-is, moved}
-use Rattle.language.proofs.World.{overlay, Typed, Fine, Where, pushed, as-long, cleared, releasable, all-cleared, drop-typed}
-use Rattle.language.proofs.Names.{Back, Rel, a-variable, a-procedure, Related, places, Performs, Runs, as-is, grow-env, formals-env, block-env, proc-env, place-env, without-env}
+use Rattle.language.proofs.Sim.{Sim, Agree, stops, ends, bind, gives, halts, begins, begins-suc, begins-zero, ticks, weaker, releases, end≢stop, moved}
+use Rattle.language.proofs.World.{overlay, Typed, Fine, pushed, as-long, releasable, all-cleared, drop-typed}
+use Rattle.language.proofs.Names.{Back, Rel, a-procedure, Related, places, Runs, as-is, grow-env, formals-env, block-env, proc-env, place-env, without-env}
 use Rattle.language.proofs.Steps.{World, Yields, located-sim, fetch-sim, bind-value, value-sim, test-sim, whole-sim, store-sim, Found-args, args-sim, taken-one, taken-sim, released-sim}
 
 -- one turn of a while, forth and back

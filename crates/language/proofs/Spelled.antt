@@ -1,21 +1,20 @@
 -- A rule that is written out as a table is read back from it.
 use mathlib.Core.List.{List, [], _∷_, _++_, append-assoc, append-nil}
-use mathlib.Core.Path.{_≡_, refl, sym, subst, subst⁻¹, _∙_, ap}
-use mathlib.Core.Bool.{Bool, true, false, cond}
+use mathlib.Core.Path.{_≡_, refl, sym, _∙_, ap}
+use mathlib.Core.Bool.{true, false}
 use Rattle.std.specs.declared.option.Option.{Option}
 use Rattle.std.specs.declared.option.Option.the-variants.{Some, None}
-use Rattle.std.specs.declared.result.Result.{Result}
-use Rattle.std.specs.declared.result.Result.the-variants.{Ok, Err}
-use Prim.Native.Nat.{ℕ, zero, suc, _+_}
+use Rattle.std.specs.declared.result.Result.the-variants.{Ok}
+use Prim.Native.Nat.{ℕ, suc, _+_}
 use native.Mathlib.Omega.{arith}
 use lib.ListN.{length}
-use lib.IntN.{ℤ, pos}
+use lib.IntN.{pos}
 use Rattle.language.specs.declared.tables.Node.{Node}
 use Rattle.language.specs.declared.values.Scalar.{Scalar}
 use Rattle.language.specs.declared.values.Scalar.the-variants.{Whole as wholes, Truth as truths}
 use Rattle.language.specs.Tree.{Decl, Arg, Expr, Com, Procs, Coms, truth, whole, read, plus, less, or, null, assign, if, while, call, block, pnil, pcons, cnil, ccons}
-use Rattle.language.specs.Results.{_>>=_, _>>?_}
-use Rattle.language.specs.Table.{Piece, expr, comm, arg, dec, pro, Stack, asExpr, asCom, asArg, asDecl, asProc, pop, pops, build-from, only-com, build}
+use Rattle.language.specs.Results.{_>>?_}
+use Rattle.language.specs.Table.{Piece, expr, comm, arg, dec, pro, Stack, asCom, asArg, asDecl, asProc, pops, build-from, build}
 use Rattle.language.specs.Spelling.{node, type-bit, spell-expr, spell-args, spell-decls, how-many-procs, how-many-coms, spell, spell-procs, spell-coms, size-expr, size, size-procs, size-coms, Numbered-expr, Numbered-args, Numbered-decls, Numbered, Numbered-procs, Numbered-coms, Spells}
 
 -- a piece that stands at j, with j in its tree, and what is read after it

@@ -1,13 +1,13 @@
 -- The small steps: reading, writing, taking and releasing locations, and the value of an expression.
 use mathlib.Core.Path.{_≡_, refl, sym, ap, subst, _∙_}
-use mathlib.Core.Logic.{_⊎_, inl, inr}
+use mathlib.Core.Logic.{inl, inr}
 use mathlib.Core.Bool.{Bool, true, false, cond}
 use mathlib.Core.List.{List, [], _∷_}
-use mathlib.Core.Option.{Option as Found, some, none}
-use Prim.Native.Nat.{ℕ, zero, suc, _+_, _≤_, _<_}
+use mathlib.Core.Option.{Option as Found, some}
+use Prim.Native.Nat.{ℕ, suc, _+_, _≤_, _<_}
 use native.Mathlib.Omega.{arith}
-use lib.ListN.{length, drop}
-use lib.IntN.{ℤ, pos, _+ℤ_}
+use lib.ListN.{length}
+use lib.IntN.{ℤ, _+ℤ_}
 use lib.Signed.{ltZ}
 use Rattle.std.specs.declared.option.Option.{Option}
 use Rattle.std.specs.declared.option.Option.the-variants.{Some, None}
@@ -24,19 +24,19 @@ use Rattle.language.specs.Results as Q
 use Rattle.language.specs.Results.{orElse}
 use Rattle.language.specs.Memory.{Memory, put, live}
 use Rattle.language.specs.Stack.{value-at, with-value}
-use Rattle.language.specs.Sight.{Sight, look, Bound, find, placed}
+use Rattle.language.specs.Sight.{Sight, look, Bound, find}
 use Rattle.language.specs.Sight as S
-use Rattle.language.specs.Tree.{Decl, Arg, Com, Expr, truth, whole, read, plus, less, or}
-use Rattle.language.specs.Names.{Entry, variable, procedure, types, as-variable, check-expr, check-args}
+use Rattle.language.specs.Tree.{Decl, Arg, Expr, truth, whole, read, plus, less, or}
+use Rattle.language.specs.Names.{Entry, variable, types, as-variable, check-expr, check-args}
 use Rattle.language.specs.Reference as R
 use Rattle.language.specs.Runs as M
 use Rattle.language.specs.Runs.{Out, ended, stopped, Step, Env, give, stop, answered, fetch, change, take-one, take-all, release, release-all, located, locations}
 use Rattle.language.proofs.Binds.{no-ok, ok-is, bind-ok}
 use Rattle.language.proofs.Types.{alike-self, variable-found}
 use Rattle.language.proofs.Checked.{two-operands}
-use Rattle.language.proofs.Sim.{Sim, Agree, stops, ends, bind, gives, answers, sum≢stuck, end≢stop, moved}
+use Rattle.language.proofs.Sim.{Sim, Agree, ends, bind, gives, answers, sum≢stuck, end≢stop, moved}
 use Rattle.language.proofs.World.{overlay, Typed, Fine, Where, pushed, reads, writes, free, counts, Live, cleared, room-left}
-use Rattle.language.proofs.Names.{Rel, a-variable, a-procedure, Related, Matched, places, Runs, Back}
+use Rattle.language.proofs.Names.{Rel, a-variable, Related, Matched, places, Runs, Back}
 
 -- a step that leaves the store and the units as they are
 abbrev pub Yields : {A X : Type 0} → ℕ → (Memory → Type 0) → Memory → ℕ → (A → X → Type 0) → Step A → Result X Stop → Type 0

@@ -1,18 +1,15 @@
 -- What a trace costs.
-use mathlib.Core.List.{List, [], _∷_, _++_}
-use mathlib.Core.Path.{_≡_, refl, sym, ap, _∙_}
+use mathlib.Core.List.{[], _∷_, _++_}
+use mathlib.Core.Path.{_≡_, refl, ap}
 use mathlib.Core.Bool.{Bool, true, false, cond}
-use Prim.Native.Nat.{ℕ, zero, suc, _+_, _-_, _≤_, _<_}
+use Prim.Native.Nat.{ℕ, zero, suc, _+_, _-_, _<_}
 use native.Mathlib.Omega.{arith}
-use lib.ListN.{length, getD}
-use lib.IntN.{ℤ}
-use Rattle.std.specs.declared.result.Result.{Result}
+use lib.ListN.{getD}
 use Rattle.std.specs.declared.result.Result.the-variants.{Ok, Err}
-use Rattle.language.specs.declared.values.Stop.{Stop}
-use Rattle.language.specs.declared.values.Stop.the-variants.{Sum, Unit as Unit-stop, Stuck}
+use Rattle.language.specs.declared.values.Stop.the-variants.{Sum, Unit as Unit-stop}
 use Rattle.language.specs.Values.{fits}
 use Rattle.language.specs.Results.{_>>=_}
-use Rattle.language.specs.Meaning.{Event, begins, adds, Trace}
+use Rattle.language.specs.Meaning.{begins, adds, Trace}
 use Rattle.language.specs.Laws.{commands, units, All-fit, spend}
 use Rattle.language.proofs.Binds.{no-ok, ok-is}
 

@@ -1,5 +1,5 @@
 -- The kinds of nodes and their numbers.
-use mathlib.Core.List.{List, [], _∷_}
+use mathlib.Core.List.{[], _∷_}
 use Prim.Native.Nat.{ℕ}
 use lib.ListN.{getD}
 use Rattle.std.specs.declared.option.Option.{Option}

@@ -20,7 +20,7 @@ use Rattle.language.specs.Spelling.{Spells}
 use Rattle.language.specs.Names.{check-rule}
 use Rattle.language.specs.Check.{check}
 use Rattle.language.specs.WellFormed.{Formed}
-use Rattle.language.specs.Meaning.{Event, begins, adds, Trace, Means}
+use Rattle.language.specs.Meaning.{begins, adds, Trace, Means}
 use Rattle.language.specs.Reference.{graded, answer}
 use Rattle.language.specs.Runs.{Out, ended, stopped, runs}
 

@@ -21,7 +21,7 @@ use Rattle.language.specs.declared.faults.TableCause.the-variants.{Kind as Kin
 use Rattle.language.specs.Faults.{fault}
 use Rattle.language.specs.Kinds.{withNumber}
 use Rattle.language.specs.Results.{_>>=_, _>>?_, asked, orElse}
-use Rattle.language.specs.Tree.{Decl, Arg, Expr, Com, Procs, Coms, truth, whole, read, plus, less, or, null, assign, if, while, call, block, pnil, pcons, cnil, ccons}
+use Rattle.language.specs.Tree.{Decl, Arg, Expr, Com, truth, whole, read, plus, less, or, null, assign, if, while, call, block, pnil, pcons, cnil, ccons}
 
 -- a finished piece of a table
 pub data Piece : Type 0 where

@@ -11,7 +11,7 @@ use Rattle.language.specs.declared.values.Scalar.the-variants.{Whole as wholes
 use Rattle.language.specs.declared.values.Value.{Value}
 use Rattle.language.specs.declared.values.Value.the-variants.{Whole as whole-value, Truth as truth-value}
 use Rattle.language.specs.declared.values.Stop.{Stop}
-use Rattle.language.specs.declared.values.Stop.the-variants.{Sum, Unit as Unit-stop, Stuck}
+use Rattle.language.specs.declared.values.Stop.the-variants.{Sum, Stuck}
 
 -- the numbers that the engine has: signed, of 32 bits
 abbrev pub fits : ℤ → Bool

@@ -1,11 +1,7 @@
 -- Samples: tables with a step, an allowance, and the answer that is due.
 use mathlib.Core.Path.{_≡_}
 use mathlib.Core.List.{List, map}
-use Rattle.std.specs.declared.option.Option.{Option}
 use Rattle.std.specs.declared.option.Option.the-variants.{Some}
-use Rattle.std.specs.declared.result.Result.{Result}
-use Rattle.language.specs.declared.values.Graded.{Graded}
-use Rattle.language.specs.declared.faults.Fault.{Fault}
 use Rattle.samples.specs.declared.entries.Sample.{Sample}
 use Rattle.language.specs.Outcome.{outcome}
 
