@@ -1,0 +1,6 @@
+pub mod Walks
+pub mod Frames
+pub mod Pops
+pub mod Nodes
+pub mod Passes
+pub mod Starts

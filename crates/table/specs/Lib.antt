@@ -1,0 +1,5 @@
+pub mod Stretches
+pub mod Sorts
+pub mod Walk
+pub mod Measured
+pub mod Pieces
