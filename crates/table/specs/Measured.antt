@@ -15,6 +15,7 @@ use Rattle.language.specs.Spelling.{size}
 use Rattle.language.specs.Tree.{Com}
 use Rattle.table.specs.Stretches.{ComAt}
 
+-- an empty table, a list with too little room, and then the first refusal of the table
 abbrev pub measured : List Node → ℕ → Result (Unit {0}) Fault
 measured ns room =
     asked (ltb 0 (length ns)) (refusal Length 0) >>= λ _.
@@ -27,6 +28,7 @@ pub record Lengths (ns : List Node) (ls : List ℕ) : Type 0 where
   pub stands : ComAt ns ls 0 0 rule
   pub whole : size rule ≡ length ns
 
+-- what is noted where a table is a rule
 abbrev pub Noted : List Node → List ℕ → Result (Unit {0}) Fault → Type 0
 Noted ns ls (Err f) = Unit {0}
 Noted ns ls (Ok u) = Lengths ns ls

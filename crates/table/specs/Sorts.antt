@@ -1,4 +1,4 @@
--- The sorts of pieces.
+-- The sort of the piece that a node of each kind ends.
 use mathlib.Core.Bool.{Bool, _&&_}
 use Prim.Native.Nat.{ℕ}
 use lib.Dec.{eqb}
@@ -25,6 +25,7 @@ sortOf Decl = Declaration
 sortOf Proc = Procedure
 sortOf Block = Command
 
+-- the place of a sort among the sorts
 abbrev pub order : Sort → ℕ
 order Expression = 0
 order Command = 1
@@ -35,5 +36,6 @@ order Procedure = 4
 abbrev pub sameSort : Sort → Sort → Bool
 sameSort a b = eqb (order a) (order b)
 
-abbrev pub countless : Node → Bool
-countless n = eqb (n .a) 0 && (eqb (n .b) 0 && eqb (n .c) 0)
+-- a node that lists no count
+abbrev pub zeroCounts : Node → Bool
+zeroCounts n = eqb (n .a) 0 && (eqb (n .b) 0 && eqb (n .c) 0)

@@ -29,10 +29,12 @@ startAt ls i = i + 1 - getD ls i 0
 abbrev pub Short : List ℕ → ℕ → Type 0
 Short ls i = (k : ℕ) → k < i → getD ls k 0 ≤ k + 1
 
+-- where a start is found, it is not past e
 abbrev pub Low : Option ℕ → ℕ → Type 0
 Low None e = Unit {0}
 Low (Some s) e = s ≤ e
 
+-- where a length is found, it does not reach past the first node
 abbrev pub Brief : Result ℕ Fault → ℕ → Type 0
 Brief (Err f) i = Unit {0}
 Brief (Ok z) i = z ≤ i + 1
@@ -43,10 +45,12 @@ stepBack ns ls so e =
     cond (eqb e 0) None
     (withNumber (node-at ns (e - 1) .kind) >>? λ k. cond (sameSort (sortOf k) so) (Some (startAt ls (e - 1))) None)
 
+-- where the last n pieces of this sort begin that end right before e
 unfoldable pub walk : List Node → List ℕ → Sort → ℕ → ℕ → Option ℕ
 walk ns ls so zero e = Some e
 walk ns ls so (suc n) e = stepBack ns ls so e >>? walk ns ls so n
 
+-- where the pieces begin that a node i of this kind takes
 abbrev pub startOf : Kind → Node → List Node → List ℕ → ℕ → Option ℕ
 startOf Truth n ns ls i = Some i
 startOf Whole n ns ls i = Some i

@@ -1,7 +1,7 @@
 // What one node says by itself: the sort of the piece that it ends, and whether its fields are as its kind wants them.
 ghost use mathlib.Core.Path.{_≡_};
 ghost use Rattle.language.specs.Table.{formed as well-formed, isBit};
-ghost use Rattle.table.specs.Sorts.{sortOf, countless};
+ghost use Rattle.table.specs.Sorts.{sortOf, zeroCounts};
 use language::Kind;
 use language::Node;
 use language::Number;
@@ -39,7 +39,7 @@ fn is_bit(value: Number) -> bool
 }
 
 fn no_counts(node: Node) -> bool
-    ensures { λ r. ⌜ r ≡ countless node ⌝ }
+    ensures { λ r. ⌜ r ≡ zeroCounts node ⌝ }
 {
     node.a == 0 && node.b == 0 && node.c == 0
 }
