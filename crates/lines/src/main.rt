@@ -1,11 +1,17 @@
-// Holds one size's shifts of a small piece on each store, and shows what a store refuses.
+// Checks every sample rule; then holds one size's shifts of a small piece on each store, and shows what a store refuses.
 use byte_store::ByteStore;
 use byte_store::ByteStoreImpl;
 use language::Number;
+use language::Scalar;
 use language::Value;
 use record_store::Cell;
 use record_store::RecordStore;
 use record_store::RecordStoreImpl;
+use rule::Entry;
+use rule::Rule;
+use rule::check;
+use samples::sample_lines;
+use scope::Record;
 use std::error::AnyError;
 use store::Dead;
 use store::Full;
@@ -14,6 +20,9 @@ use store::WriteRefusal;
 
 #[cfg(test)]
 mod tests;
+
+// Records in each work list: enough for every sample.
+const WORK: usize = 64;
 
 const POINTS: usize = 4;
 
@@ -86,7 +95,24 @@ fn hold_shifts<S: Store>(rt: &LibcRuntime, store: &mut S) -> Result<(), AnyError
     show_count(rt, store)
 }
 
+// The need of each sample rule, or the number and the place of its refusal.
+fn check_samples(rt: &LibcRuntime) -> Result<(), AnyError> {
+    let mut lens = [0; WORK];
+    let mut names = [Record::blank(Entry::Hidden); WORK];
+    let mut types = [Scalar::Whole; WORK];
+    let mut rule = Rule::built_in();
+    for sample in sample_lines() {
+        let name = sample.name;
+        match check(&mut rule, sample.nodes, &mut lens, &mut names, &mut types) {
+            Ok(()) => println!(rt, "{name} accepted {}", rule.need())?,
+            Err(fault) => println!(rt, "{name} no {} {}", fault.layer.number(), fault.place)?,
+        }
+    }
+    Ok(())
+}
+
 fn main(rt: LibcRuntime) -> Result<(), AnyError> {
+    check_samples(&rt)?;
     println!(rt, "record store")?;
     let mut cells = [Cell::free(); 64];
     hold_shifts(&rt, &mut RecordStore::over(&mut cells))?;

@@ -1,0 +1,15 @@
+mod Cuts
+mod ExprShapes
+mod Turns
+mod Grows
+mod Called
+mod Snocs
+mod ComShapes
+mod Sights
+mod Laws
+mod Bounds
+mod Splits
+mod Names
+mod Passes
+mod Blocked
+mod Whole
