@@ -35,7 +35,7 @@ agreed table ds ms ρ = variables-agree ds ms (without ms ρ) ρ (λ m h. withou
 
 module _ (table : List Node) (ds : List Decl) (ps : Procs) (ρ : Names) where
   both : Pairs (check-procs (variables ds (without (proc-names ps) ρ)) [] ps (variables ds (without (proc-names ps) ρ)))
-         (check-procs (variables ds (without (proc-names ps) ρ)) [] ps (variables ds ρ))
+      (check-procs (variables ds (without (proc-names ps) ρ)) [] ps (variables ds ρ))
   both = procs-agree (variables ds (without (proc-names ps) ρ)) [] ps _ (variables ds ρ) (agreed table ds (proc-names ps) ρ)
 
   procs-bad : (f : Fault) → check-procs (variables ds (without (proc-names ps) ρ)) [] ps (variables ds (without (proc-names ps) ρ)) ≡ Err f
@@ -67,7 +67,7 @@ enter-room s g = omega (arith, s .roomy, s .procedures .whole, two-each (s .ps),
 
 -- the scope on the way: hidden names in b, the variables in c, which is seen from inner
 module _ {table : List Node} (v q r : Part) (a b c : Scope Entry) (inner : ℕ)
-  (hides : (ps : Procs) → Is-procs q ps → sight b ≡ hidden (proc-names ps) (sight a)) (enters : sight c ≡ entered (now (v .nodes)) (sight b)) (from : inner ≡ c .head) where
+    (hides : (ps : Procs) → Is-procs q ps → sight b ≡ hidden (proc-names ps) (sight a)) (enters : sight c ≡ entered (now (v .nodes)) (sight b)) (from : inner ≡ c .head) where
   looks-here : (ps : Procs) (ρ : Names) → Is-procs q ps → Looks table (sight a) ρ → Looks table (sight c) (variables (decls-from (v .first) (now (v .nodes))) (without (proc-names ps) ρ))
   looks-here ps ρ iq lk =
       looks-as enters (looks-entered table (now (v .nodes)) (v .first) (sight b) _ (looks-as (hides ps iq) (looks-hidden table (proc-names ps) (sight a) ρ lk)))
@@ -77,11 +77,20 @@ module _ {table : List Node} (v q r : Part) (a b c : Scope Entry) (inner : ℕ)
 
   pub pass-procs : (s : Some-block table v q r a) → inner ≤ c .top → Grown a b (how-many-procs (s .ps)) → Grown b c (length (now (v .nodes))) → Some-procs table q inner c
   pass-procs s low g h =
-      record { ps = s .ps; is = s .procedures; lies = s .procedures-lie; low = low
-             ; seen = record { ρ = variables (decls-from (v .first) (now (v .nodes))) (without (proc-names (s .ps)) (s .seen .ρ)); B = s .seen .B; looks = looks-inner (s .ps) (s .seen .ρ) (s .procedures) (s .seen .looks)
-                             ; bounded = bounded-vars (s .seen .B) (decls-from (v .first) (now (v .nodes))) _ (bounded-without (s .seen .B) (proc-names (s .ps)) (s .seen .ρ) (s .seen .bounded))
-                             ; fits = omega (arith, s .seen .fits) }
-             ; roomy = omega (arith, s .roomy, g .top, g .long, h .top, h .long) }
+      record {
+        ps = s .ps;
+        is = s .procedures;
+        lies = s .procedures-lie;
+        low = low;
+        seen = record {
+          ρ = variables (decls-from (v .first) (now (v .nodes))) (without (proc-names (s .ps)) (s .seen .ρ));
+          B = s .seen .B;
+          looks = looks-inner (s .ps) (s .seen .ρ) (s .procedures) (s .seen .looks);
+          bounded = bounded-vars (s .seen .B) (decls-from (v .first) (now (v .nodes))) _ (bounded-without (s .seen .B) (proc-names (s .ps)) (s .seen .ρ) (s .seen .bounded));
+          fits = omega (arith, s .seen .fits);
+        };
+        roomy = omega (arith, s .roomy, g .top, g .long, h .top, h .long);
+      }
 
   module _ (ps : Procs) (ρ : Names) (iq : Is-procs q ps) (lk : Looks table (sight a) ρ) (names : Ok tt ≡ check-decls [] (decls-from (v .first) (now (v .nodes)))) where
     pub block-procs-bad : (i : ℕ) (cs : Coms) (f : Fault) (ω : Entries) → Procs-says table q (in-sight (now (c .records)) inner) (sight c) (Err f) ω
@@ -89,7 +98,7 @@ module _ {table : List Node} (v q r : Part) (a b c : Scope Entry) (inner : ℕ)
     block-procs-bad i cs f ω h =
         let k = procs-bad table (decls-from (v .first) (now (v .nodes))) ps ρ f (h ps _ _ iq (looks-inner ps ρ iq lk) (looks-here ps ρ iq lk)) in
         sym (ap (λ o. o >>= λ _. check-procs (variables (decls-from (v .first) (now (v .nodes))) (without (proc-names ps) ρ)) [] ps (variables (decls-from (v .first) (now (v .nodes))) ρ) >>= λ ρ′. check-coms ρ′ cs >>= λ n. Ok (length (decls-from (v .first) (now (v .nodes))) + n)) (sym names)
-             ∙ ap (λ o. o >>= λ ρ′. check-coms ρ′ cs >>= λ n. Ok (length (decls-from (v .first) (now (v .nodes))) + n)) k)
+        ∙ ap (λ o. o >>= λ ρ′. check-coms ρ′ cs >>= λ n. Ok (length (decls-from (v .first) (now (v .nodes))) + n)) k)
 
     module _ (ω : Entries) (done : Procs-says table q (in-sight (now (c .records)) inner) (sight c) (Ok tt) ω) where
       after : (υ : Names) × (check-procs (variables (decls-from (v .first) (now (v .nodes))) (without (proc-names ps) ρ)) [] ps (variables (decls-from (v .first) (now (v .nodes))) ρ) ≡ Ok υ) × Looks table ω υ
@@ -99,10 +108,14 @@ module _ {table : List Node} (v q r : Part) (a b c : Scope Entry) (inner : ℕ)
 
       pub after-sighted : (B z : ℕ) → Bounded B ρ → B + (long q + z) ≤ 4096 → Sighted table ω z
       after-sighted B z h le =
-          record { ρ = after .0; B = B + size-procs ps; looks = after .2
-                 ; bounded = procs-bound ps B B (variables (decls-from (v .first) (now (v .nodes))) (without (proc-names ps) ρ)) [] (variables (decls-from (v .first) (now (v .nodes))) ρ) (after .0)
-                             (bounded-vars B (decls-from (v .first) (now (v .nodes))) _ (bounded-without B (proc-names ps) ρ h)) (bounded-vars B (decls-from (v .first) (now (v .nodes))) ρ h) (omega arith) (after .1)
-                 ; fits = omega (arith, iq .whole) }
+          record {
+            ρ = after .0;
+            B = B + size-procs ps;
+            looks = after .2;
+            bounded = procs-bound ps B B (variables (decls-from (v .first) (now (v .nodes))) (without (proc-names ps) ρ)) [] (variables (decls-from (v .first) (now (v .nodes))) ρ) (after .0)
+                (bounded-vars B (decls-from (v .first) (now (v .nodes))) _ (bounded-without B (proc-names ps) ρ h)) (bounded-vars B (decls-from (v .first) (now (v .nodes))) ρ h) (omega arith) (after .1);
+            fits = omega (arith, iq .whole);
+          }
 
       through : (i : ℕ) (cs : Coms) → check-com ρ (block i (decls-from (v .first) (now (v .nodes))) ps cs) ≡ (check-coms (after .0) cs >>= λ n. Ok (length (decls-from (v .first) (now (v .nodes))) + n))
       through i cs =
@@ -119,15 +132,23 @@ module _ {table : List Node} (v q r : Part) (a b c : Scope Entry) (inner : ℕ)
 
         pub block-small : (B n : ℕ) → Bounded B ρ → Coms-says table r ω (Ok n) → n ≤ B + (long q + long r)
         block-small B n h k =
-            omega (arith, iq .whole, ir .whole
-                  , coms-bound cs (B + size-procs ps) (after .0) n
-                    (procs-bound ps B B (variables (decls-from (v .first) (now (v .nodes))) (without (proc-names ps) ρ)) [] (variables (decls-from (v .first) (now (v .nodes))) ρ) (after .0)
-                     (bounded-vars B (decls-from (v .first) (now (v .nodes))) _ (bounded-without B (proc-names ps) ρ h)) (bounded-vars B (decls-from (v .first) (now (v .nodes))) ρ h) (omega arith) (after .1))
-                    (sym (k cs (after .0) ir (after .2))))
+            omega (
+              arith,
+              iq .whole,
+              ir .whole,
+              coms-bound cs (B + size-procs ps) (after .0) n
+                  (procs-bound ps B B (variables (decls-from (v .first) (now (v .nodes))) (without (proc-names ps) ρ)) [] (variables (decls-from (v .first) (now (v .nodes))) ρ) (after .0)
+                  (bounded-vars B (decls-from (v .first) (now (v .nodes))) _ (bounded-without B (proc-names ps) ρ h)) (bounded-vars B (decls-from (v .first) (now (v .nodes))) ρ h) (omega arith) (after .1))
+                  (sym (k cs (after .0) ir (after .2))),
+            )
 
   pub pass-block-coms : {d : Scope Entry} (s : Some-block table v q r a) → Ok tt ≡ check-decls [] (decls-from (v .first) (now (v .nodes))) → Procs-says table q (in-sight (now (c .records)) inner) (sight c) (Ok tt) (sight d)
       → Grown a b (how-many-procs (s .ps)) → Grown b c (length (now (v .nodes))) → Grown c d (how-many-procs (s .ps)) → Some-coms table r d
   pass-block-coms {d} s names done g h k =
-      record { cs = s .cs; is = s .commands; lies = s .commands-lie
-             ; seen = after-sighted (s .ps) (s .seen .ρ) (s .procedures) (s .seen .looks) names (sight d) done (s .seen .B) (long r) (s .seen .bounded) (omega (arith, s .seen .fits))
-             ; roomy = omega (arith, s .roomy, s .procedures .whole, two-each (s .ps), g .top, g .long, h .top, h .long, k .top, k .long) }
+      record {
+        cs = s .cs;
+        is = s .commands;
+        lies = s .commands-lie;
+        seen = after-sighted (s .ps) (s .seen .ρ) (s .procedures) (s .seen .looks) names (sight d) done (s .seen .B) (long r) (s .seen .bounded) (omega (arith, s .seen .fits));
+        roomy = omega (arith, s .roomy, s .procedures .whole, two-each (s .ps), g .top, g .long, h .top, h .long, k .top, k .long);
+      }

@@ -109,7 +109,7 @@ mutual
       let y : E + size-procs ps ≡ D + (length fs + size c + 1 + size-procs ps) = omega arith in
       subst (λ (n : ℕ). Bounded n τ) y
       (procs-bound ps B E inner (m ∷ seen) ((m, procedure (types fs) x) ∷ ρ) τ h
-        (omega arith, bounded-more D E ρ (omega arith) k) (omega arith) q₃)
+      (omega arith, bounded-more D E ρ (omega arith) k) (omega arith) q₃)
 
   pub coms-bound : (cs : Coms) (B : ℕ) (ρ : Names) (n : ℕ) → Bounded B ρ → check-coms ρ cs ≡ Ok n → n ≤ B + size-coms cs
   coms-bound cnil B ρ n h q = let z : 0 ≡ n = cc in omega arith

@@ -28,8 +28,8 @@ types-long [] = refl
 types-long (n ∷ ns) = ap suc (types-long ns)
 
 module _ (table : List Node) (ρ : Names) (i m n : ℕ) (xs : List Arg) (ts : List Scalar) (q : Routine) (long : n ≤ length ts)
-  (args : check-args ρ xs ≡ Ok (take n ts))
-  (found : (as-procedure i (look m ρ) ≡ Ok (types-in (take (q .count) (drop (q .first) table)), q .need)) × (q .first + q .count ≤ length table)) where
+    (args : check-args ρ xs ≡ Ok (take n ts))
+    (found : (as-procedure i (look m ρ) ≡ Ok (types-in (take (q .count) (drop (q .first) table)), q .need)) × (q .first + q .count ≤ length table)) where
   formals : List Scalar
   formals = types-in (take (q .count) (drop (q .first) table))
 
@@ -42,7 +42,7 @@ module _ (table : List Node) (ρ : Names) (i m n : ℕ) (xs : List Arg) (ts : Li
 
   -- the formals as the code cut them out
   module _ (fs : List Node) (b : Bool) (cut : fs ≡ take (q .first + n - q .first) (drop (q .first) table)) (same : n ≡ q .count)
-    (alike : b ≡ all-alike (take (length fs) ts) (types-in fs)) where
+      (alike : b ≡ all-alike (take (length fs) ts) (types-in fs)) where
     fs-are : fs ≡ take (q .count) (drop (q .first) table)
     fs-are = let e : q .first + n - q .first ≡ q .count = omega arith in cut ∙ ap (λ (k : ℕ). take k (drop (q .first) table)) e
 

@@ -113,27 +113,45 @@ module _ (p : Part) where
       let y = com-ended p x (0 + size-expr e) (begins p (long p - 1)) (n .1) (omega (arith, n .1, h .whole)) (h .fine) (h .at .2) in
       let hz : ComAt (now (p .nodes)) (now (p .lens)) (p .first) (begins p (long p - 1)) z = subst (λ (s : ℕ). ComAt (now (p .nodes)) (now (p .lens)) (p .first) s z) (sym (n .1)) (h .at .3) in
       let hx : ComAt (now (p .nodes)) (now (p .lens)) (p .first) (begins p (begins p (long p - 1))) x = subst (λ (s : ℕ). ComAt (now (p .nodes)) (now (p .lens)) (p .first) s x) (sym (y .1)) (h .at .2) in
-      record { thirded = record { some = omega (arith, h .whole); third = n .0; second = y .0 }
-             ; view = λ t u v c.
-                 let it = is-expr e (c .first) (omega (arith, y .1)) (omega (arith, y .1, h .whole)) (h .fine) (h .at .1) in
-                 let iu = is-com x (c .second) (omega (arith, y .1, n .1)) (omega (arith, n .1, h .whole)) (h .fine) hx in
-                 let iv = is-com z (c .third) (omega (arith, n .1, h .whole)) (omega arith) (h .fine) hz in
-                 record { e = e; x = x; z = z; is = ap (λ (j : ℕ). if j e x z) (ends-place p (h .whole) (h .at .0)); test = it; yes = iu; no = iv
-                        ; yes-in = inside (omega (arith, y .1, n .1)) (omega (arith, n .1, h .whole)) (c .second)
-                        ; no-in = inside (omega (arith, n .1, h .whole)) (omega arith) (c .third)
-                        ; sizes = omega (arith, h .whole, it .whole, iu .whole, iv .whole) } }
+      record {
+        thirded = record { some = omega (arith, h .whole); third = n .0; second = y .0 };
+        view = λ t u v c.
+            let it = is-expr e (c .first) (omega (arith, y .1)) (omega (arith, y .1, h .whole)) (h .fine) (h .at .1) in
+            let iu = is-com x (c .second) (omega (arith, y .1, n .1)) (omega (arith, n .1, h .whole)) (h .fine) hx in
+            let iv = is-com z (c .third) (omega (arith, n .1, h .whole)) (omega arith) (h .fine) hz in
+            record {
+              e = e;
+              x = x;
+              z = z;
+              is = ap (λ (j : ℕ). if j e x z) (ends-place p (h .whole) (h .at .0));
+              test = it;
+              yes = iu;
+              no = iv;
+              yes-in = inside (omega (arith, y .1, n .1)) (omega (arith, n .1, h .whole)) (c .second);
+              no-in = inside (omega (arith, n .1, h .whole)) (omega arith) (c .third);
+              sizes = omega (arith, h .whole, it .whole, iu .whole, iv .whole);
+            };
+      }
 
   while-shape : (i : ℕ) (e : Expr) (x : Com) → Is-com p (while i e x) → While-shape p (while i e x)
   while-shape i e x h =
       let n = com-ended p x (0 + size-expr e) (long p - 1) (omega (arith, h .whole)) (omega arith) (h .fine) (h .at .2) in
       let hx : ComAt (now (p .nodes)) (now (p .lens)) (p .first) (begins p (long p - 1)) x = subst (λ (s : ℕ). ComAt (now (p .nodes)) (now (p .lens)) (p .first) s x) (sym (n .1)) (h .at .2) in
-      record { halved = record { some = omega (arith, h .whole); ended = n .0 }
-             ; view = λ t b c.
-                 let it = is-expr e (c .left) (omega (arith, n .1)) (omega (arith, n .1, h .whole)) (h .fine) (h .at .1) in
-                 let ib = is-com x (c .right) (omega (arith, n .1, h .whole)) (omega arith) (h .fine) hx in
-                 record { e = e; x = x; is = ap (λ (j : ℕ). while j e x) (ends-place p (h .whole) (h .at .0)); test = it; body = ib
-                        ; body-in = inside (omega (arith, n .1, h .whole)) (omega arith) (c .right)
-                        ; sizes = omega (arith, h .whole, it .whole, ib .whole) } }
+      record {
+        halved = record { some = omega (arith, h .whole); ended = n .0 };
+        view = λ t b c.
+            let it = is-expr e (c .left) (omega (arith, n .1)) (omega (arith, n .1, h .whole)) (h .fine) (h .at .1) in
+            let ib = is-com x (c .right) (omega (arith, n .1, h .whole)) (omega arith) (h .fine) hx in
+            record {
+              e = e;
+              x = x;
+              is = ap (λ (j : ℕ). while j e x) (ends-place p (h .whole) (h .at .0));
+              test = it;
+              body = ib;
+              body-in = inside (omega (arith, n .1, h .whole)) (omega arith) (c .right);
+              sizes = omega (arith, h .whole, it .whole, ib .whole);
+            };
+      }
 
   call-shape : (i m : ℕ) (xs : List Arg) → Is-com p (call i m xs) → (a : Part) → Cut p a 0 (long p - 1) → Calls p (last-node p .name) a (call i m xs)
   call-shape i m xs h a c =
@@ -152,24 +170,41 @@ module _ (p : Part) where
       let k : commands-at p ≡ 0 + length ds + size-procs ps = skip-are p (last-node p .c) cs (0 + length ds + size-procs ps) (long p - 1) m (h .at .6) (omega arith) (omega arith) (h .fine) in
       let hq : ProcsAt (now (p .nodes)) (now (p .lens)) (p .first) (last-node p .a) ps = subst (λ (s : ℕ). ProcsAt (now (p .nodes)) (now (p .lens)) (p .first) s ps) (omega arith) (h .at .5) in
       let hr : ComsAt (now (p .nodes)) (now (p .lens)) (p .first) (commands-at p) cs = subst (λ (s : ℕ). ComsAt (now (p .nodes)) (now (p .lens)) (p .first) s cs) (sym k) (h .at .6) in
-      record { blocked = record { some = omega arith
-                                ; row = record { s = 0 + length ds + size-procs ps; cs = cs; at = h .at .6; ends = omega arith; many = m; within = omega arith; fine = h .fine }
-                                ; order = omega arith; low = omega arith }
-             ; view = λ v q r c.
-                 let d = is-decls ds (c .variables) (omega arith) (omega arith) (h .at .4) in
-                 let iq = is-procs ps (c .procedures) (omega arith) (omega arith) (h .fine) hq in
-                 let ir = is-coms cs (c .commands) (omega arith) (omega arith) (h .fine) hr in
-                 record { ps = ps; cs = cs; is = ap₂ (λ (j : ℕ) (ds : List Decl). block j ds ps cs) (ends-place p z (h .at .0)) (sym d)
-                        ; fine = cut-fine (c .variables) (omega arith) (omega arith) (h .fine); procedures = iq; commands = ir
-                        ; procedures-in = inside (omega arith) (omega arith) (c .procedures); commands-in = inside (omega arith) (omega arith) (c .commands)
-                        ; sizes = omega (arith, cut-long (c .variables) (omega arith) (omega arith), iq .whole, ir .whole) } }
+      record {
+        blocked = record {
+          some = omega arith;
+          row = record { s = 0 + length ds + size-procs ps; cs = cs; at = h .at .6; ends = omega arith; many = m; within = omega arith; fine = h .fine };
+          order = omega arith;
+          low = omega arith;
+        };
+        view = λ v q r c.
+            let d = is-decls ds (c .variables) (omega arith) (omega arith) (h .at .4) in
+            let iq = is-procs ps (c .procedures) (omega arith) (omega arith) (h .fine) hq in
+            let ir = is-coms cs (c .commands) (omega arith) (omega arith) (h .fine) hr in
+            record {
+              ps = ps;
+              cs = cs;
+              is = ap₂ (λ (j : ℕ) (ds : List Decl). block j ds ps cs) (ends-place p z (h .at .0)) (sym d);
+              fine = cut-fine (c .variables) (omega arith) (omega arith) (h .fine);
+              procedures = iq;
+              commands = ir;
+              procedures-in = inside (omega arith) (omega arith) (c .procedures);
+              commands-in = inside (omega arith) (omega arith) (c .commands);
+              sizes = omega (arith, cut-long (c .variables) (omega arith) (omega arith), iq .whole, ir .whole);
+            };
+      }
 
   shape : (c : Com) → Is-com p c → (k : Kind) × (withNumber (last-node p .kind) ≡ Some k) × Shape p k c
   shape (null i) h = (Null, ends-kind p (h .whole) (h .at), ap null (ends-place p (h .whole) (h .at)))
-  shape (assign i m e) h =
-      ( Assign, ends-kind p (h .whole) (h .at .0 .end)
-      , λ v c. record { e = e; is = ap₂ (λ (j n : ℕ). assign j n e) (ends-place p (h .whole) (h .at .0 .end)) (name-last (h .whole) (h .at .0))
-                      ; value = is-expr e c (omega (arith, h .whole)) (omega arith) (h .fine) (h .at .1) } )
+  shape (assign i m e) h = (
+    Assign,
+    ends-kind p (h .whole) (h .at .0 .end),
+    λ v c. record {
+      e = e;
+      is = ap₂ (λ (j n : ℕ). assign j n e) (ends-place p (h .whole) (h .at .0 .end)) (name-last (h .whole) (h .at .0));
+      value = is-expr e c (omega (arith, h .whole)) (omega arith) (h .fine) (h .at .1);
+    },
+  )
   shape (if i e x z) h = (If, ends-kind p (h .whole) (h .at .0), if-shape i e x z h)
   shape (while i e x) h = (While, ends-kind p (h .whole) (h .at .0), while-shape i e x h)
   shape (call i m xs) h = (Call, ends-kind p (h .whole) (h .at .0 .end), call-shape i m xs h)

@@ -85,11 +85,13 @@ module _ (p : Part) where
       let b = expr-ended r (0 + size-expr l) (long p - 1) (omega arith) (omega arith) f hr in
       let m : begins p (long p - 1) ≡ size-expr l = b .1 ∙ omega arith in
       let hr′ : ExprAt (now (p .nodes)) (now (p .lens)) (p .first) (begins p (long p - 1)) r = subst (λ (s : ℕ). ExprAt (now (p .nodes)) (now (p .lens)) (p .first) s r) (sym (b .1)) hr in
-      record { halved = record { some = omega arith; ended = b .0 }
-             ; pair = λ u v h.
-                 let il = is-expr l (h .left) (omega arith) (omega arith) f hl in
-                 let ir = is-expr r (h .right) (omega arith) (omega arith) f hr′ in
-                 record { e = l; f = r; left = il; right = ir; sizes = omega (arith, il .whole, ir .whole); says = says } }
+      record {
+        halved = record { some = omega arith; ended = b .0 };
+        pair = λ u v h.
+            let il = is-expr l (h .left) (omega arith) (omega arith) f hl in
+            let ir = is-expr r (h .right) (omega arith) (omega arith) f hr′ in
+            record { e = l; f = r; left = il; right = ir; sizes = omega (arith, il .whole, ir .whole); says = says };
+      }
 
   at-kind : {k : Kind} {x : Expr} → withNumber (last-node p .kind) ≡ Some k → Shape p k x → (k : Kind) × (withNumber (last-node p .kind) ≡ Some k) × Shape p k x
   at-kind {k} e h = (k, e, h)
@@ -100,15 +102,21 @@ module _ (p : Part) where
   shape (read i m) h =
       let n : last-node p .name ≡ m = ap (λ (i : ℕ). node-at (now (p .nodes)) i .name) (sym (ends-last (h .whole) (h .at .end))) ∙ h .at .name in
       (Read, ends-kind (h .whole) (h .at .end), λ ρ. rw (ends-place (h .whole) (h .at .end), n) refl)
-  shape (plus i l r) h =
-      (Plus, ends-kind (h .whole) (h .at .0)
-      , split wholes wholes (plus i l r) l r (h .fine) (h .whole) (h .at .1) (h .at .2) (λ ρ. ap (both ρ l r wholes wholes) (ends-place (h .whole) (h .at .0))))
-  shape (less i l r) h =
-      (Less, ends-kind (h .whole) (h .at .0)
-      , split wholes truths (less i l r) l r (h .fine) (h .whole) (h .at .1) (h .at .2) (λ ρ. ap (both ρ l r wholes truths) (ends-place (h .whole) (h .at .0))))
-  shape (or i l r) h =
-      (Or, ends-kind (h .whole) (h .at .0)
-      , split truths truths (or i l r) l r (h .fine) (h .whole) (h .at .1) (h .at .2) (λ ρ. ap (both ρ l r truths truths) (ends-place (h .whole) (h .at .0))))
+  shape (plus i l r) h = (
+    Plus,
+    ends-kind (h .whole) (h .at .0),
+    split wholes wholes (plus i l r) l r (h .fine) (h .whole) (h .at .1) (h .at .2) (λ ρ. ap (both ρ l r wholes wholes) (ends-place (h .whole) (h .at .0))),
+  )
+  shape (less i l r) h = (
+    Less,
+    ends-kind (h .whole) (h .at .0),
+    split wholes truths (less i l r) l r (h .fine) (h .whole) (h .at .1) (h .at .2) (λ ρ. ap (both ρ l r wholes truths) (ends-place (h .whole) (h .at .0))),
+  )
+  shape (or i l r) h = (
+    Or,
+    ends-kind (h .whole) (h .at .0),
+    split truths truths (or i l r) l r (h .fine) (h .whole) (h .at .1) (h .at .2) (λ ρ. ap (both ρ l r truths truths) (ends-place (h .whole) (h .at .0))),
+  )
 
   -- at the kind that the code has found
   pub shape-of : (k : Kind) (x : Expr) → withNumber (last-node p .kind) ≡ Some k → Is-expr p x → Shape p k x

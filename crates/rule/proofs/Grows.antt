@@ -53,5 +53,9 @@ turned-sight {a} {b} {h} t = ap (λ (l : List (Record Entry)). in-sight l (b .he
 -- going back
 pub back-kept : {a x y : Scope Entry} {d t h : ℕ} → Grown a x d → Returned x y t h → t ≡ a .top → h ≡ a .head → Kept a y
 back-kept {a} {x} {y} {d} g r t h =
-    record { top = r .top ∙ t; head = r .head ∙ h; long = ap (λ (l : List (Record Entry)). length l) (r .records) ∙ g .long
-           ; older = λ k le. ap (λ (l : List (Record Entry)). in-sight l k) (r .records) ∙ g .older k le }
+    record {
+      top = r .top ∙ t;
+      head = r .head ∙ h;
+      long = ap (λ (l : List (Record Entry)). length l) (r .records) ∙ g .long;
+      older = λ k le. ap (λ (l : List (Record Entry)). in-sight l k) (r .records) ∙ g .older k le;
+    }

@@ -41,26 +41,43 @@ grown-err r f a b d e = rw e tt
 
 -- ---- a command inside
 module _ {table : List Node} {p : Part} {a b : Scope Entry} (seen : Sighted table (sight a) (long p)) (roomy : a .top + long p ≤ room a) (lies : Lies table p)
-  (kept : Kept a b) (low : a .head ≤ a .top) where
+    (kept : Kept a b) (low : a .head ≤ a .top) where
   sighted-on : (w : ℕ) → w ≤ long p → Sighted table (sight b) w
   sighted-on w le = record { ρ = seen .ρ; B = seen .B; looks = kept-looks (seen .ρ) kept low (seen .looks); bounded = seen .bounded; fits = omega (arith, seen .fits) }
 
   pub pass-com : {q : Part} {x : Com} → Is-com q x → Inside p q → Some-com table q b
   pass-com {q} {x} is i =
-      record { c = x; is = is; lies = lies-inside lies i; seen = sighted-on (long q) (inside-long i)
-             ; roomy = omega (arith, inside-long i, kept .top, kept .long) }
+      record {
+        c = x;
+        is = is;
+        lies = lies-inside lies i;
+        seen = sighted-on (long q) (inside-long i);
+        roomy = omega (arith, inside-long i, kept .top, kept .long);
+      }
 
   pub pass-coms : {q : Part} {xs : Coms} → Is-coms q xs → Inside p q → Some-coms table q b
   pass-coms {q} {xs} is i =
-      record { cs = xs; is = is; lies = lies-inside lies i; seen = sighted-on (long q) (inside-long i)
-             ; roomy = omega (arith, inside-long i, kept .top, kept .long) }
+      record {
+        cs = xs;
+        is = is;
+        lies = lies-inside lies i;
+        seen = sighted-on (long q) (inside-long i);
+        roomy = omega (arith, inside-long i, kept .top, kept .long);
+      }
 
 pub pass-block : {table : List Node} {p v q r : Part} {a : Scope Entry} {c : Com} → Some-com table p a → Blocks p v q r c → Some-block table v q r a
 pass-block {table} {p} {v} {q} {r} {a} {c} s w =
-    record { ps = w .ps; cs = w .cs; fine = w .fine; procedures = w .procedures; commands = w .commands
-           ; procedures-lie = lies-inside (s .lies) (w .procedures-in); commands-lie = lies-inside (s .lies) (w .commands-in)
-           ; seen = record { ρ = s .seen .ρ; B = s .seen .B; looks = s .seen .looks; bounded = s .seen .bounded; fits = omega (arith, s .seen .fits, w .sizes) }
-           ; roomy = omega (arith, s .roomy, w .sizes) }
+    record {
+      ps = w .ps;
+      cs = w .cs;
+      fine = w .fine;
+      procedures = w .procedures;
+      commands = w .commands;
+      procedures-lie = lies-inside (s .lies) (w .procedures-in);
+      commands-lie = lies-inside (s .lies) (w .commands-in);
+      seen = record { ρ = s .seen .ρ; B = s .seen .B; looks = s .seen .looks; bounded = s .seen .bounded; fits = omega (arith, s .seen .fits, w .sizes) };
+      roomy = omega (arith, s .roomy, w .sizes);
+    }
 
 pub block-is : {p v q r : Part} {c : Com} (w : Blocks p v q r c) (ρ : Names) (o : Result ℕ Fault)
     → o ≡ check-com ρ (block (placed p) (decls-from (v .first) (now (v .nodes))) (w .ps) (w .cs)) → o ≡ check-com ρ c
@@ -92,10 +109,19 @@ module _ (table : List Node) {p f b : Part} {fs : List Decl} {c : Com} (w : Proc
       → Turned a x inner → sight y ≡ entered (now (f .nodes)) (sight x) → Grown x y (long f) → Some-com table b y
   pass-body {a} {x} {y} {inner} s lies roomy t v g =
       let k = grown-turned t in
-      record { c = c; is = w .body; lies = lies-inside lies (w .body-in)
-             ; seen = record { ρ = variables fs (s .ρ); B = s .B; looks = body-looks a x y inner (s .ρ) t v (s .looks); bounded = bounded-vars (s .B) fs (s .ρ) (s .bounded)
-                             ; fits = omega (arith, s .fits, w .sizes) }
-             ; roomy = omega (arith, roomy, w .sizes, k .top, k .long, g .top, g .long) }
+      record {
+        c = c;
+        is = w .body;
+        lies = lies-inside lies (w .body-in);
+        seen = record {
+          ρ = variables fs (s .ρ);
+          B = s .B;
+          looks = body-looks a x y inner (s .ρ) t v (s .looks);
+          bounded = bounded-vars (s .B) fs (s .ρ) (s .bounded);
+          fits = omega (arith, s .fits, w .sizes);
+        };
+        roomy = omega (arith, roomy, w .sizes, k .top, k .long, g .top, g .long);
+      }
 
   module _ (ρ : Names) where
     names-ok : (o : Result (Unit {0}) Fault) → o ≡ check-decls [] (decls-from (f .first) (now (f .nodes))) → check-decls [] fs ≡ o
@@ -115,16 +141,29 @@ module _ (table : List Node) {p l r : Part} {ps : Procs} (w : Procs-parts p l r 
   pub pass-front : {a : Scope Entry} {inner : ℕ} → Sighted table (in-sight (now (a .records)) inner) (long p) → Lies table p → inner ≤ a .top
       → a .top + long p ≤ room a + how-many-procs ps → Some-procs table l inner a
   pass-front {a} {inner} s lies low roomy =
-      record { ps = w .init; is = w .front; lies = lies-inside lies (w .front-in); low = low
-             ; seen = record { ρ = s .ρ; B = s .B; looks = s .looks; bounded = s .bounded; fits = omega (arith, s .fits, w .sizes) }
-             ; roomy = omega (arith, roomy, w .sizes, w .some, w .many) }
+      record {
+        ps = w .init;
+        is = w .front;
+        lies = lies-inside lies (w .front-in);
+        low = low;
+        seen = record { ρ = s .ρ; B = s .B; looks = s .looks; bounded = s .bounded; fits = omega (arith, s .fits, w .sizes) };
+        roomy = omega (arith, roomy, w .sizes, w .some, w .many);
+      }
 
   pub pass-last : {a b : Scope Entry} {inner : ℕ} → Sighted table (in-sight (now (a .records)) inner) (long p) → Lies table p → inner ≤ a .top
       → a .top + long p ≤ room a + how-many-procs ps → Grown a b (how-many-procs (w .init)) → Some-proc table r inner b
   pass-last {a} {b} {inner} s lies low roomy g =
-      record { i = w .i; m = w .m; fs = w .fs; c = w .c; is = w .back; lies = lies-inside lies (w .back-in); low = omega (arith, g .top)
-             ; seen = record { ρ = s .ρ; B = s .B; looks = looks-as (g .older inner low) (s .looks); bounded = s .bounded; fits = omega (arith, s .fits, w .sizes) }
-             ; roomy = omega (arith, roomy, w .sizes, w .some, w .many, w .twice, g .top, g .long) }
+      record {
+        i = w .i;
+        m = w .m;
+        fs = w .fs;
+        c = w .c;
+        is = w .back;
+        lies = lies-inside lies (w .back-in);
+        low = omega (arith, g .top);
+        seen = record { ρ = s .ρ; B = s .B; looks = looks-as (g .older inner low) (s .looks); bounded = s .bounded; fits = omega (arith, s .fits, w .sizes) };
+        roomy = omega (arith, roomy, w .sizes, w .some, w .many, w .twice, g .top, g .long);
+      }
 
   pub room-more : {a b c : Scope Entry} → a .top + long p ≤ room a + how-many-procs ps → Grown a b (how-many-procs (w .init)) → Kept b c → c .top < room c
   room-more roomy g k = omega (arith, roomy, w .sizes, w .some, w .many, w .twice, g .top, g .long, k .top, k .long)
@@ -148,7 +187,7 @@ module _ (table : List Node) {p l r : Part} {ps : Procs} (w : Procs-parts p l r 
       made-bad f h = joined ∙ one-bad ρ (seen-after (w .init) []) (w .i) (w .m) (w .fs) (w .c) (earlier .0) f (h (w .i) (w .m) (w .fs) (w .c) ρ (w .back) (looks-as again lk))
 
       module _ (q : Routine) (n : Node) (b : Bool) (made : Proc-says table r σ″ (Ok q)) (node : n ≡ last-node r)
-        (found : (qs : Procs) → Is-procs l qs → b ≡ member (n .name) (seen-after qs [])) where
+          (found : (qs : Procs) → Is-procs l qs → b ≡ member (n .name) (seen-after qs [])) where
         made-is : (body-said ρ (w .fs) (w .c) ≡ Ok (q .need)) × (types-in (take (q .count) (drop (q .first) table)) ≡ types (w .fs)) × (q .first + q .count ≤ length table)
         made-is = made (w .i) (w .m) (w .fs) (w .c) ρ (w .back) (looks-as again lk)
 
@@ -161,13 +200,14 @@ module _ (table : List Node) {p l r : Part} {ps : Procs} (w : Procs-parts p l r 
         pub made-twice : (f : Fault) (i : ℕ) → f ≡ refusal Repeated i → i ≡ placed r → b ≡ true → Err f ≡ check-procs ρ [] ps τ
         made-twice f i e k t =
             sym (joined ∙ one-twice ρ (seen-after (w .init) []) (w .i) (w .m) (w .fs) (w .c) (earlier .0) (q .need) (made-is .0) (found-is true t)
-                 ∙ ap (λ (i : ℕ). Err (refusal Repeated i)) (w .place ∙ sym k) ∙ ap Err (sym e))
+            ∙ ap (λ (i : ℕ). Err (refusal Repeated i)) (w .place ∙ sym k) ∙ ap Err (sym e))
 
         pub made-well : (ω₂ ω₃ : Entries) → ω₂ ≡ ω → ω₃ ≡ (n .name, Procedure q) ∷ ω₂ → b ≡ false → (φ : Names) × (check-procs ρ [] ps τ ≡ Ok φ) × Looks table ω₃ φ
-        made-well ω₂ ω₃ e k t =
-            ( (w .m, procedure (types (w .fs)) (q .need)) ∷ earlier .0
-            , joined ∙ one-well ρ (seen-after (w .init) []) (w .i) (w .m) (w .fs) (w .c) (earlier .0) (q .need) (made-is .0) (found-is false t)
-            , looks-as (k ∙ ap (λ (x : ℕ). (x, Procedure q) ∷ ω₂) name-is) (looks-proc table (w .m) (w .fs) q (made-is .1) (made-is .2) (looks-as e (earlier .2))) )
+        made-well ω₂ ω₃ e k t = (
+          (w .m, procedure (types (w .fs)) (q .need)) ∷ earlier .0,
+          joined ∙ one-well ρ (seen-after (w .init) []) (w .i) (w .m) (w .fs) (w .c) (earlier .0) (q .need) (made-is .0) (found-is false t),
+          looks-as (k ∙ ap (λ (x : ℕ). (x, Procedure q) ∷ ω₂) name-is) (looks-proc table (w .m) (w .fs) q (made-is .1) (made-is .2) (looks-as e (earlier .2))),
+        )
 
 pub no-procs-said : (table : List Node) (p : Part) (ps : Procs) (ρ τ : Names) (ω : Entries) → long p ≡ 0 → Is-procs p ps → Looks table ω τ
     → (υ : Names) × (check-procs ρ [] ps τ ≡ Ok υ) × Looks table ω υ

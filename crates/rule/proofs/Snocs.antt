@@ -40,14 +40,33 @@ module _ (ns : List Node) (ls : List ℕ) (o : ℕ) where
   back-procs pnil s h le = absurd (omega arith)
   back-procs (pcons i m fs c pnil) s h le =
       let z : s ≡ s + 0 = omega arith in
-      record { init = pnil; i = i; m = m; fs = fs; c = c; is = refl; front = tt
-             ; back = subst (λ (x : ℕ). ProcAt ns ls o x i m fs c) z (h .0); sizes = omega arith; many = omega arith }
+      record {
+        init = pnil;
+        i = i;
+        m = m;
+        fs = fs;
+        c = c;
+        is = refl;
+        front = tt;
+        back = subst (λ (x : ℕ). ProcAt ns ls o x i m fs c) z (h .0);
+        sizes = omega arith;
+        many = omega arith;
+      }
   back-procs (pcons i m fs c (pcons j n gs d ps)) s h le =
       let u = back-procs (pcons j n gs d ps) (s + (length fs + size c + 1)) (h .1) (omega arith) in
       let z : s + (length fs + size c + 1) + size-procs (u .init) ≡ s + (length fs + size c + 1 + size-procs (u .init)) = omega arith in
-      record { init = pcons i m fs c (u .init); i = u .i; m = u .m; fs = u .fs; c = u .c; is = ap (pcons i m fs c) (u .is); front = (h .0, u .front)
-             ; back = subst (λ (x : ℕ). ProcAt ns ls o x (u .i) (u .m) (u .fs) (u .c)) z (u .back)
-             ; sizes = omega (arith, u .sizes); many = omega (arith, u .many) }
+      record {
+        init = pcons i m fs c (u .init);
+        i = u .i;
+        m = u .m;
+        fs = u .fs;
+        c = u .c;
+        is = ap (pcons i m fs c) (u .is);
+        front = (h .0, u .front);
+        back = subst (λ (x : ℕ). ProcAt ns ls o x (u .i) (u .m) (u .fs) (u .c)) z (u .back);
+        sizes = omega (arith, u .sizes);
+        many = omega (arith, u .many);
+      }
 
   pub record Back-coms (s : ℕ) (cs : Coms) : Type 0 where
     pub init : Coms
@@ -63,14 +82,27 @@ module _ (ns : List Node) (ls : List ℕ) (o : ℕ) where
   back-coms cnil s h le = absurd (omega arith)
   back-coms (ccons c cnil) s h le =
       let z : s ≡ s + 0 = omega arith in
-      record { init = cnil; c = c; is = refl; front = tt
-             ; back = subst (λ (x : ℕ). ComAt ns ls o x c) z (h .0); sizes = omega arith; many = omega arith }
+      record {
+        init = cnil;
+        c = c;
+        is = refl;
+        front = tt;
+        back = subst (λ (x : ℕ). ComAt ns ls o x c) z (h .0);
+        sizes = omega arith;
+        many = omega arith;
+      }
   back-coms (ccons c (ccons d cs)) s h le =
       let u = back-coms (ccons d cs) (s + size c) (h .1) (omega arith) in
       let z : s + size c + size-coms (u .init) ≡ s + (size c + size-coms (u .init)) = omega arith in
-      record { init = ccons c (u .init); c = u .c; is = ap (ccons c) (u .is); front = (h .0, u .front)
-             ; back = subst (λ (x : ℕ). ComAt ns ls o x (u .c)) z (u .back)
-             ; sizes = omega (arith, u .sizes); many = omega (arith, u .many) }
+      record {
+        init = ccons c (u .init);
+        c = u .c;
+        is = ap (ccons c) (u .is);
+        front = (h .0, u .front);
+        back = subst (λ (x : ℕ). ComAt ns ls o x (u .c)) z (u .back);
+        sizes = omega (arith, u .sizes);
+        many = omega (arith, u .many);
+      }
 
 -- a row that takes up no nodes is empty
 pub no-procs : (ps : Procs) → size-procs ps ≡ 0 → ps ≡ pnil
@@ -112,9 +144,18 @@ module _ (p : Part) where
       let u = back-coms (now (p .nodes)) (now (p .lens)) (p .first) (q .cs) (q .s) (q .at) (omega (arith, q .many)) in
       let z : e ≡ q .s + size-coms (u .init) + size (u .c) = omega (arith, q .ends, u .sizes) in
       let b = com-ended (u .c) (q .s + size-coms (u .init)) e z (q .within) (q .fine) (u .back) in
-      record { ended = b .0
-             ; next = record { s = q .s; cs = u .init; at = u .front; ends = b .1; many = omega (arith, q .many, u .many)
-                             ; within = omega (arith, b .1, z, q .within); fine = q .fine } }
+      record {
+        ended = b .0;
+        next = record {
+          s = q .s;
+          cs = u .init;
+          at = u .front;
+          ends = b .1;
+          many = omega (arith, q .many, u .many);
+          within = omega (arith, b .1, z, q .within);
+          fine = q .fine;
+        };
+      }
 
   pub skip-more : (n e : ℕ) → 0 < n → skipped p n e ≡ skipped p (n - 1) (begins p e)
   skip-more zero e h = absurd (omega arith)

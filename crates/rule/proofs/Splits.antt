@@ -40,11 +40,13 @@ lies-inside {table} {p} {q} l i =
     let n : long q ≡ i .e - i .s = cut-long (i .cut) (i .order) (i .within) in
     let w : long p ≡ i .s + (long p - i .s) = omega (arith, i .order, i .within) in
     let cut : drop (i .s) (now (p .nodes)) ≡ take (long p - i .s) (drop (p .first + i .s) table) =
-        ap (drop (i .s)) (l .nodes ∙ ap (λ (k : ℕ). take k (drop (p .first) table)) w)
-        ∙ drop-take (i .s) (long p - i .s) (drop (p .first) table) ∙ ap (take (long p - i .s)) (drop-drop (i .s) (p .first) table) in
-    record { nodes = i .cut .nodes ∙ ap (take (i .e - i .s)) cut ∙ take-take (i .e - i .s) (long p - i .s) (drop (p .first + i .s) table) (omega (arith, i .within))
-                     ∙ ap₂ (λ (k m : ℕ). take k (drop m table)) (sym n) (sym (i .cut .first))
-           ; within = omega (arith, l .within, i .cut .first, i .order, i .within) }
+    ap (drop (i .s)) (l .nodes ∙ ap (λ (k : ℕ). take k (drop (p .first) table)) w)
+    ∙ drop-take (i .s) (long p - i .s) (drop (p .first) table) ∙ ap (take (long p - i .s)) (drop-drop (i .s) (p .first) table) in
+    record {
+      nodes = i .cut .nodes ∙ ap (take (i .e - i .s)) cut ∙ take-take (i .e - i .s) (long p - i .s) (drop (p .first + i .s) table) (omega (arith, i .within))
+          ∙ ap₂ (λ (k m : ℕ). take k (drop m table)) (sym n) (sym (i .cut .first));
+      within = omega (arith, l .within, i .cut .first, i .order, i .within);
+    }
 
 -- ---- commands in a row
 pub record Coms-parts (p l r : Part) (cs : Coms) : Type 0 where
@@ -68,15 +70,24 @@ coms-split p cs lt is =
     let z : long p ≡ 0 + size-coms (u .init) + size (u .c) = omega (arith, is .whole, u .sizes) in
     let b = com-ended p (u .c) (0 + size-coms (u .init)) (long p) z (omega arith) (is .fine) (u .back) in
     let back : ComAt (now (p .nodes)) (now (p .lens)) (p .first) (begins p (long p)) (u .c) =
-        subst (λ (s : ℕ). ComAt (now (p .nodes)) (now (p .lens)) (p .first) s (u .c)) (sym (b .1)) (u .back) in
-    record { ended = b .0
-           ; parts = λ l r h.
-               let il = is-coms (u .init) (h .left) (b .1) (omega (arith, b .1, z)) (is .fine) (u .front) in
-               let ir = is-com (u .c) (h .right) (omega (arith, b .1, z)) (omega arith) (is .fine) back in
-               record { init = u .init; c = u .c; front = il; back = ir
-                      ; front-in = inside (omega arith) (omega (arith, b .1, z)) (h .left); back-in = inside (omega (arith, b .1, z)) (omega arith) (h .right)
-                      ; sizes = omega (arith, z, il .whole, ir .whole); some = omega (arith, ir .whole, com-some (u .c))
-                      ; says = λ ρ. ap (check-coms ρ) (u .is) ∙ coms-snoc ρ (u .init) (u .c) } }
+    subst (λ (s : ℕ). ComAt (now (p .nodes)) (now (p .lens)) (p .first) s (u .c)) (sym (b .1)) (u .back) in
+    record {
+      ended = b .0;
+      parts = λ l r h.
+          let il = is-coms (u .init) (h .left) (b .1) (omega (arith, b .1, z)) (is .fine) (u .front) in
+          let ir = is-com (u .c) (h .right) (omega (arith, b .1, z)) (omega arith) (is .fine) back in
+          record {
+            init = u .init;
+            c = u .c;
+            front = il;
+            back = ir;
+            front-in = inside (omega arith) (omega (arith, b .1, z)) (h .left);
+            back-in = inside (omega (arith, b .1, z)) (omega arith) (h .right);
+            sizes = omega (arith, z, il .whole, ir .whole);
+            some = omega (arith, ir .whole, com-some (u .c));
+            says = λ ρ. ap (check-coms ρ) (u .is) ∙ coms-snoc ρ (u .init) (u .c);
+          };
+    }
 
 pub coms-none : (p : Part) (cs : Coms) (ρ : Names) → long p ≡ 0 → Is-coms p cs → Ok 0 ≡ check-coms ρ cs
 coms-none p cs ρ e is = sym (ap (check-coms ρ) (no-coms cs (sym (is .whole) ∙ e)))
@@ -116,20 +127,33 @@ procs-split p ps lt is =
     let z : long p ≡ 0 + size-procs (u .init) + (length (u .fs) + size (u .c) + 1) = omega (arith, is .whole, u .sizes) in
     let b = proc-ended p (u .i) (u .m) (u .fs) (u .c) (0 + size-procs (u .init)) (long p) z (omega arith) (is .fine) (u .back) in
     let back : ProcAt (now (p .nodes)) (now (p .lens)) (p .first) (begins p (long p)) (u .i) (u .m) (u .fs) (u .c) =
-        subst (λ (s : ℕ). ProcAt (now (p .nodes)) (now (p .lens)) (p .first) s (u .i) (u .m) (u .fs) (u .c)) (sym (b .1)) (u .back) in
-    record { ended = b .0
-           ; parts = λ l r h.
-               let il = is-procs (u .init) (h .left) (b .1) (omega (arith, b .1, z)) (is .fine) (u .front) in
-               let ir = is-proc (u .i) (u .m) (u .fs) (u .c) (h .right) (omega (arith, b .1, z)) (omega arith) (is .fine) back in
-               record { init = u .init; i = u .i; m = u .m; fs = u .fs; c = u .c; front = il; back = ir
-                      ; front-in = inside (omega arith) (omega (arith, b .1, z)) (h .left); back-in = inside (omega (arith, b .1, z)) (omega arith) (h .right)
-                      ; sizes = omega (arith, z, il .whole, ir .whole); some = omega (arith, ir .whole, com-some (u .c)); many = u .many
-                      ; twice = omega (arith, il .whole, two-each (u .init))
-                      ; name = ap (λ (i : ℕ). node-at (now (r .nodes)) i .name) (sym (ends-last r (ir .whole) (ir .at .0 .end))) ∙ ir .at .0 .name
-                      ; place = ends-place r (ir .whole) (ir .at .0 .end)
-                      ; says = λ ρ τ. ap (λ ps. check-procs ρ [] ps τ) (u .is) ∙ procs-snoc ρ [] (u .init) (u .i) (u .m) (u .fs) (u .c) τ
-                      ; hides = λ σ. ap (λ ps. hidden (proc-names ps) σ) (u .is) ∙ hidden-snoc (u .init) (u .i) (u .m) (u .fs) (u .c) σ
-                      ; names = λ x. ap (λ ps. member x (seen-after ps [])) (u .is) ∙ ap (member x) (seen-snoc (u .init) (u .i) (u .m) (u .fs) (u .c) []) } }
+    subst (λ (s : ℕ). ProcAt (now (p .nodes)) (now (p .lens)) (p .first) s (u .i) (u .m) (u .fs) (u .c)) (sym (b .1)) (u .back) in
+    record {
+      ended = b .0;
+      parts = λ l r h.
+          let il = is-procs (u .init) (h .left) (b .1) (omega (arith, b .1, z)) (is .fine) (u .front) in
+          let ir = is-proc (u .i) (u .m) (u .fs) (u .c) (h .right) (omega (arith, b .1, z)) (omega arith) (is .fine) back in
+          record {
+            init = u .init;
+            i = u .i;
+            m = u .m;
+            fs = u .fs;
+            c = u .c;
+            front = il;
+            back = ir;
+            front-in = inside (omega arith) (omega (arith, b .1, z)) (h .left);
+            back-in = inside (omega (arith, b .1, z)) (omega arith) (h .right);
+            sizes = omega (arith, z, il .whole, ir .whole);
+            some = omega (arith, ir .whole, com-some (u .c));
+            many = u .many;
+            twice = omega (arith, il .whole, two-each (u .init));
+            name = ap (λ (i : ℕ). node-at (now (r .nodes)) i .name) (sym (ends-last r (ir .whole) (ir .at .0 .end))) ∙ ir .at .0 .name;
+            place = ends-place r (ir .whole) (ir .at .0 .end);
+            says = λ ρ τ. ap (λ ps. check-procs ρ [] ps τ) (u .is) ∙ procs-snoc ρ [] (u .init) (u .i) (u .m) (u .fs) (u .c) τ;
+            hides = λ σ. ap (λ ps. hidden (proc-names ps) σ) (u .is) ∙ hidden-snoc (u .init) (u .i) (u .m) (u .fs) (u .c) σ;
+            names = λ x. ap (λ ps. member x (seen-after ps [])) (u .is) ∙ ap (member x) (seen-snoc (u .init) (u .i) (u .m) (u .fs) (u .c) []);
+          };
+    }
 
 pub procs-none : (p : Part) (ps : Procs) → long p ≡ 0 → Is-procs p ps → ps ≡ pnil
 procs-none p ps e is = no-procs ps (sym (is .whole) ∙ e)
@@ -154,13 +178,16 @@ proc-parts p f b i m fs c is h =
     let n : last-node p .a ≡ length fs = proc-long p i m fs c is in
     let z : long p ≡ length fs + size c + 1 = is .whole in
     let body : ComAt (now (p .nodes)) (now (p .lens)) (p .first) (last-node p .a) c =
-        subst (λ (s : ℕ). ComAt (now (p .nodes)) (now (p .lens)) (p .first) s c) (omega arith) (is .at .3) in
+    subst (λ (s : ℕ). ComAt (now (p .nodes)) (now (p .lens)) (p .first) s c) (omega arith) (is .at .3) in
     let ib = is-com c (h .body) (omega arith) (omega arith) (is .fine) body in
-    record { formals = is-decls fs (h .formals) (omega arith) (omega arith) (is .at .2)
-           ; fine = cut-fine (h .formals) (omega arith) (omega arith) (is .fine)
-           ; formals-in = inside (omega arith) (omega arith) (h .formals)
-           ; body = ib; body-in = inside (omega arith) (omega arith) (h .body)
-           ; sizes = omega (arith, cut-long (h .formals) (omega arith) (omega arith), ib .whole) }
+    record {
+      formals = is-decls fs (h .formals) (omega arith) (omega arith) (is .at .2);
+      fine = cut-fine (h .formals) (omega arith) (omega arith) (is .fine);
+      formals-in = inside (omega arith) (omega arith) (h .formals);
+      body = ib;
+      body-in = inside (omega arith) (omega arith) (h .body);
+      sizes = omega (arith, cut-long (h .formals) (omega arith) (omega arith), ib .whole);
+    }
 
 -- the types of its formals stand in the table
 pub proc-types : {table : List Node} {p f b : Part} {fs : List Decl} {c : Com} → Proc-parts p f b fs c → Lies table p

@@ -43,12 +43,14 @@ module _ (p : Part) (ls : List ℕ) (first : p .first ≡ 0) (lens : now (p .len
   pub whole-is : (w : Lengths (now (p .nodes)) ls) → Is-com p (w .rule)
   whole-is w =
       let o : 0 + 0 ≡ p .first = omega arith in
-      record { at = subst (λ (o : ℕ). ComAt (now (p .nodes)) (now (p .lens)) o 0 (w .rule)) o
-                    (com-cut (now (p .nodes)) (now (p .nodes)) ls (now (p .lens)) 0 0 (long p) (λ k lt. ap (node-at (now (p .nodes))) (omega arith))
-                     (λ k lt. ap (λ (l : List ℕ). getD l k 0) lens-are ∙ getD-take (long p) ls k 0 lt ∙ ap (λ (i : ℕ). getD ls i 0) (omega arith))
-                     (w .rule) 0 0 (omega arith) (omega (arith, w .whole)) (w .stands))
-             ; whole = sym (w .whole)
-             ; fine = record { lens = ap (λ (l : List ℕ). length l) lens-are ∙ length-take-le (long p) ls enough; most = omega arith } }
+      record {
+        at = subst (λ (o : ℕ). ComAt (now (p .nodes)) (now (p .lens)) o 0 (w .rule)) o
+            (com-cut (now (p .nodes)) (now (p .nodes)) ls (now (p .lens)) 0 0 (long p) (λ k lt. ap (node-at (now (p .nodes))) (omega arith))
+            (λ k lt. ap (λ (l : List ℕ). getD l k 0) lens-are ∙ getD-take (long p) ls k 0 lt ∙ ap (λ (i : ℕ). getD ls i 0) (omega arith))
+            (w .rule) 0 0 (omega arith) (omega (arith, w .whole)) (w .stands));
+        whole = sym (w .whole);
+        fine = record { lens = ap (λ (l : List ℕ). length l) lens-are ∙ length-take-le (long p) ls enough; most = omega arith };
+      }
 
   pub whole-lies : Lies (now (p .nodes)) p
   whole-lies =
@@ -59,15 +61,19 @@ pub outset-looks : (table : List Node) (a b c : Scope Entry) → sight a ≡ [] 
 outset-looks table a b c h p q =
     let empty : Looks table [] [] = record { says = λ m. refl; stands = λ m. tt } in
     looks-as q (looks-cons table 1 (Variable wholes) (variable wholes) refl tt
-      (looks-as p (looks-cons table 0 (Variable wholes) (variable wholes) refl tt (looks-as h empty))))
+    (looks-as p (looks-cons table 0 (Variable wholes) (variable wholes) refl tt (looks-as h empty))))
 
 pub whole-given : (p : Part) (ls : List ℕ) (a b c : Scope Entry) → p .first ≡ 0 → now (p .lens) ≡ take (long p - 0) (drop 0 ls) → long p ≤ length ls → long p ≤ 4096
     → Lengths (now (p .nodes)) ls → sight a ≡ [] → sight b ≡ (0, Variable wholes) ∷ sight a → sight c ≡ (1, Variable wholes) ∷ sight b
     → a .top ≡ 0 → Grown a b 1 → Grown b c 1 → long p + 2 ≤ room a → Some-com (now (p .nodes)) p c
 whole-given p ls a b c first lens enough most w h x y t g k roomy =
-    record { c = w .rule; is = whole-is p ls first lens enough most w; lies = whole-lies p ls first lens enough most
-           ; seen = record { ρ = outset; B = 0; looks = outset-looks (now (p .nodes)) a b c h x y; bounded = (tt, (tt, tt)); fits = omega arith }
-           ; roomy = omega (arith, g .top, g .long, k .top, k .long) }
+    record {
+      c = w .rule;
+      is = whole-is p ls first lens enough most w;
+      lies = whole-lies p ls first lens enough most;
+      seen = record { ρ = outset; B = 0; looks = outset-looks (now (p .nodes)) a b c h x y; bounded = (tt, (tt, tt)); fits = omega arith };
+      roomy = omega (arith, g .top, g .long, k .top, k .long);
+    }
 
 -- the names of a table that is built
 back : (c : Com) (r : Result ℕ Fault) → need-of (r >>= λ need. Ok (c, need)) ≡ r

@@ -11,8 +11,8 @@ ghost use Rattle.rule.specs.Seen.{Names as Sights, Looks, sight, types-in};
 ghost use Rattle.rule.specs.Rows.{args-from, Args-said};
 use crate::declarations::type_of;
 use crate::entries::Entry;
-use crate::entries::refuse;
 use crate::entries::procedure;
+use crate::entries::refuse;
 use crate::entries::variable;
 use crate::parts::Part;
 use language::Fault;
@@ -25,7 +25,10 @@ use scope::Scope;
 fn same_type(t: Scalar, u: Scalar) -> bool
     ensures alike { λ r. ⌜ r ≡ alike t u ⌝ }
 {
-    matches!((t, u), (Scalar::Whole, Scalar::Whole) | (Scalar::Truth, Scalar::Truth))
+    matches!(
+        (t, u),
+        (Scalar::Whole, Scalar::Whole) | (Scalar::Truth, Scalar::Truth)
+    )
 }
 
 // Leaves the types of the arguments in the list.
@@ -54,7 +57,14 @@ fn fit(formals: &[Node], types: &[Scalar]) -> bool
 }
 
 // The need of the procedure that is called.
-pub fn call(table: &[Node], name: Name, args: Part<'_>, place: usize, scope: &Scope<'_, Entry>, types: &mut [Scalar]) -> Result<usize, Fault>
+pub fn call(
+    table: &[Node],
+    name: Name,
+    args: Part<'_>,
+    place: usize,
+    scope: &Scope<'_, Entry>,
+    types: &mut [Scalar],
+) -> Result<usize, Fault>
     requires fine { ⌜ Fine args ⌝ }
     requires types { ⌜ long args ≤ length (now types) ⌝ }
     requires looks { ⌜ ((ρ : Sights) × Looks (now table) (sight (now scope)) ρ) ⌝ }

@@ -66,7 +66,12 @@ fn named(procs: Part<'_>, name: Name) -> bool
     same_name(name, last.last().name) || named(front, name)
 }
 
-fn assign(name: Name, value: Part<'_>, place: usize, scope: &Scope<'_, Entry>) -> Result<usize, Fault>
+fn assign(
+    name: Name,
+    value: Part<'_>,
+    place: usize,
+    scope: &Scope<'_, Entry>,
+) -> Result<usize, Fault>
     requires some { ⌜ Some-expr value ⌝ }
     ensures says { λ r. ⌜ ((e : Expr) (table : List Node) (ρ : Sights) → Is-expr (value .entry) e → Looks table (sight (now (scope .entry))) ρ → r ≡ check-com ρ (assigns place name e)) ⌝ }
 {
@@ -77,7 +82,12 @@ fn assign(name: Name, value: Part<'_>, place: usize, scope: &Scope<'_, Entry>) -
 }
 
 // The locations that the command needs.
-pub fn command(table: &[Node], part: Part<'_>, scope: &mut Scope<'_, Entry>, types: &mut [Scalar]) -> Result<usize, Fault>
+pub fn command(
+    table: &[Node],
+    part: Part<'_>,
+    scope: &mut Scope<'_, Entry>,
+    types: &mut [Scalar],
+) -> Result<usize, Fault>
     requires some { ⌜ Some-com (now table) part (now scope) ⌝ }
     requires types { ⌜ length (now table) ≤ length (now types) ⌝ }
     ensures says { λ r. ⌜ Com-says (now (table .entry)) (part .entry) (sight (now (scope .entry))) r ⌝ }
@@ -107,7 +117,12 @@ pub fn command(table: &[Node], part: Part<'_>, scope: &mut Scope<'_, Entry>, typ
 }
 
 // The largest need of the commands.
-fn commands(table: &[Node], part: Part<'_>, scope: &mut Scope<'_, Entry>, types: &mut [Scalar]) -> Result<usize, Fault>
+fn commands(
+    table: &[Node],
+    part: Part<'_>,
+    scope: &mut Scope<'_, Entry>,
+    types: &mut [Scalar],
+) -> Result<usize, Fault>
     requires some { ⌜ Some-coms (now table) part (now scope) ⌝ }
     requires types { ⌜ length (now table) ≤ length (now types) ⌝ }
     ensures says { λ r. ⌜ Coms-says (now (table .entry)) (part .entry) (sight (now (scope .entry))) r ⌝ }
@@ -123,7 +138,13 @@ fn commands(table: &[Node], part: Part<'_>, scope: &mut Scope<'_, Entry>, types:
 }
 
 // One procedure: its body sees from the position `inner`, and its own formals.
-fn one_procedure(table: &[Node], part: Part<'_>, inner: usize, scope: &mut Scope<'_, Entry>, types: &mut [Scalar]) -> Result<Routine, Fault>
+fn one_procedure(
+    table: &[Node],
+    part: Part<'_>,
+    inner: usize,
+    scope: &mut Scope<'_, Entry>,
+    types: &mut [Scalar],
+) -> Result<Routine, Fault>
     requires some { ⌜ Some-proc (now table) part inner (now scope) ⌝ }
     requires types { ⌜ length (now table) ≤ length (now types) ⌝ }
     ensures says { λ r. ⌜ Proc-says (now (table .entry)) (part .entry) (in-sight (now (now (scope .entry) .records)) inner) r ⌝ }
@@ -136,11 +157,21 @@ fn one_procedure(table: &[Node], part: Part<'_>, inner: usize, scope: &mut Scope
     enter_all(formals.nodes, scope);
     let need = command(table, body, scope, types)?;
     back_to(scope, mark);
-    Ok(Routine { first: formals.first, count: formals.nodes.len(), need })
+    Ok(Routine {
+        first: formals.first,
+        count: formals.nodes.len(),
+        need,
+    })
 }
 
 // Brings the procedures into sight, each after it was checked.
-fn procedures(table: &[Node], part: Part<'_>, inner: usize, scope: &mut Scope<'_, Entry>, types: &mut [Scalar]) -> Result<(), Fault>
+fn procedures(
+    table: &[Node],
+    part: Part<'_>,
+    inner: usize,
+    scope: &mut Scope<'_, Entry>,
+    types: &mut [Scalar],
+) -> Result<(), Fault>
     requires some { ⌜ Some-procs (now table) part inner (now scope) ⌝ }
     requires types { ⌜ length (now table) ≤ length (now types) ⌝ }
     ensures says { λ r. ⌜ Procs-says (now (table .entry)) (part .entry) (in-sight (now (now (scope .entry) .records)) inner) (sight (now (scope .entry))) r (sight (now (scope .exit))) ⌝ }
@@ -161,7 +192,14 @@ fn procedures(table: &[Node], part: Part<'_>, inner: usize, scope: &mut Scope<'_
 }
 
 // The procedures see the variables, and not one another's names; the commands see all.
-fn block(table: &[Node], variables: Part<'_>, procs: Part<'_>, coms: Part<'_>, scope: &mut Scope<'_, Entry>, types: &mut [Scalar]) -> Result<usize, Fault>
+fn block(
+    table: &[Node],
+    variables: Part<'_>,
+    procs: Part<'_>,
+    coms: Part<'_>,
+    scope: &mut Scope<'_, Entry>,
+    types: &mut [Scalar],
+) -> Result<usize, Fault>
     requires some { ⌜ Some-block (now table) variables procs coms (now scope) ⌝ }
     requires types { ⌜ length (now table) ≤ length (now types) ⌝ }
     ensures says { λ r. ⌜ Block-says (now (table .entry)) (variables .entry) (procs .entry) (coms .entry) (sight (now (scope .entry))) r ⌝ }

@@ -25,7 +25,11 @@ use scope::Scope;
 pub fn type_of(node: Node) -> Scalar
     ensures given { λ r. ⌜ r ≡ typeOf (node .value) ⌝ }
 {
-    if node.value == 0 { Scalar::Whole } else { Scalar::Truth }
+    if node.value == 0 {
+        Scalar::Whole
+    } else {
+        Scalar::Truth
+    }
 }
 
 // One of the first `count` nodes has this name.

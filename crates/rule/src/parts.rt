@@ -84,7 +84,11 @@ impl<'a> Part<'a> {
         let end = self.nodes.len() - 1;
         let third = self.start_of(end);
         let second = self.start_of(third);
-        (self.cut(0, second), self.cut(second, third), self.cut(third, end))
+        (
+            self.cut(0, second),
+            self.cut(second, third),
+            self.cut(third, end),
+        )
     }
 
     // All but the last node.
@@ -129,7 +133,11 @@ impl<'a> Part<'a> {
         let variables = node.a as usize;
         let end = self.nodes.len() - 1;
         let commands = self.skip(end, node.c);
-        (self.cut(0, variables), self.cut(variables, commands), self.cut(commands, end))
+        (
+            self.cut(0, variables),
+            self.cut(variables, commands),
+            self.cut(commands, end),
+        )
     }
 
     // The formals and the body of a procedure.
@@ -138,6 +146,9 @@ impl<'a> Part<'a> {
         ensures cuts { λ r. ⌜ Proc-cuts (self .entry) (r .0) (r .1) ⌝ }
     {
         let formals = self.last().a as usize;
-        (self.cut(0, formals), self.cut(formals, self.nodes.len() - 1))
+        (
+            self.cut(0, formals),
+            self.cut(formals, self.nodes.len() - 1),
+        )
     }
 }

@@ -2,6 +2,8 @@
 ghost use mathlib.Core.Path.{_≡_};
 ghost use mathlib.Core.Bool.{true};
 ghost use Prim.Native.Nat.{ℕ, _+_, _≤_};
+ghost use mathlib.Core.List.{[], _∷_};
+ghost use lib.IntN.{pos};
 ghost use lib.ListN.{length};
 ghost use denote.Ref.{now as behind};
 ghost use Rattle.std.specs.Results.{Cases};
@@ -25,7 +27,14 @@ use table::measure;
 const MOST_NODES: usize = 4096;
 
 // The table of the rule that does nothing: one node, of the kind `null`.
-static NOTHING: [Node; 1] = [Node { kind: 6, name: 0, value: 0, a: 0, b: 0, c: 0 }];
+static NOTHING: [Node; 1] = [Node {
+    kind: 6,
+    name: 0,
+    value: 0,
+    a: 0,
+    b: 0,
+    c: 0,
+}];
 
 // A table that check accepted, with the locations that a run of it needs.
 #[derive(Clone, Copy)]
@@ -38,6 +47,7 @@ pub struct Rule<'a> {
 impl<'a> Rule<'a> {
     // The rule that does nothing.
     pub fn built_in() -> Rule<'a>
+        ensures table { λ r. ⌜ now (r .nodes) ≡ record { kind = 6; name = 0; value = pos 0; a = 0; b = 0; c = 0 } ∷ [] ⌝ }
         ensures need { λ r. ⌜ r .need ≡ 2 ⌝ }
     {
         Rule {
@@ -68,7 +78,12 @@ fn refused(cause: TableCause) -> Fault
 }
 
 // The names and types of the table, whose lengths were noted. At the outset `in` and `out` are in sight.
-fn consistent<'a>(nodes: &'a [Node], lens: &'a [usize], names: &mut [Record<Entry>], types: &mut [Scalar]) -> Result<usize, Fault>
+fn consistent<'a>(
+    nodes: &'a [Node],
+    lens: &'a [usize],
+    names: &mut [Record<Entry>],
+    types: &mut [Scalar],
+) -> Result<usize, Fault>
     requires lengths { ⌜ Lengths (now nodes) (now lens) ⌝ }
     requires most { ⌜ length (now nodes) ≤ 4096 ⌝ }
     requires lens { ⌜ length (now nodes) ≤ length (now lens) ⌝ }
@@ -89,7 +104,12 @@ fn consistent<'a>(nodes: &'a [Node], lens: &'a [usize], names: &mut [Record<Entr
 }
 
 // The need of a table that is accepted.
-fn needed(nodes: &[Node], lens: &mut [usize], names: &mut [Record<Entry>], types: &mut [Scalar]) -> Result<usize, Fault>
+fn needed(
+    nodes: &[Node],
+    lens: &mut [usize],
+    names: &mut [Record<Entry>],
+    types: &mut [Scalar],
+) -> Result<usize, Fault>
     ensures says { λ r. ⌜ r ≡ need-of (checks (now (nodes .entry)) (length (now (lens .entry))) (length (now (names .entry))) (length (now (types .entry)))) ⌝ }
 {
     let count = nodes.len();
@@ -106,7 +126,13 @@ fn needed(nodes: &[Node], lens: &mut [usize], names: &mut [Record<Entry>], types
 
 // Checks the table, with the three lists to work in: puts an accepted one into the place, and leaves the place as it
 // was where the table is refused.
-pub fn check<'a>(place: &mut Rule<'a>, nodes: &'a [Node], lens: &mut [usize], names: &mut [Record<Entry>], types: &mut [Scalar]) -> Result<(), Fault>
+pub fn check<'a>(
+    place: &mut Rule<'a>,
+    nodes: &'a [Node],
+    lens: &mut [usize],
+    names: &mut [Record<Entry>],
+    types: &mut [Scalar],
+) -> Result<(), Fault>
     ensures answers { λ r. ⌜ r ≡ verdict (checks (now (nodes .entry)) (length (now (lens .entry))) (length (now (names .entry))) (length (now (types .entry)))) ⌝ }
     ensures fills { λ r. ⌜ Cases r (λ _. (now (now (place .exit) .nodes) ≡ now (nodes .entry)) × Accepted (now (nodes .entry)) (now (place .exit) .need)) (λ _. now (place .exit) ≡ now (place .entry)) ⌝ }
 {

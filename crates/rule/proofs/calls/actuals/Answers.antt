@@ -13,16 +13,18 @@ loop-k-holds c table ρ lk = args-start (now (c .args .part .nodes)) ρ (c .args
 pub returns-in-Break-types : need.returns-in-Break-types
 returns-in-Break-types c =
     let b = err-from-errBy (c .from-residual .result) (c .from-residual .ensures .1) in
-    record { says = λ table ρ lk.
-      args-err _ _ _ _ (b .1 ∙ ap Err (b .2))
-      (c .loop-k .inv table ρ lk
-       ∙ args-stop (now (c .args .part .nodes)) ρ (c .args .part .first) (c .loop-k .k) (c .loop-k .types) _ (c .loop-k-test .taken) (sym (c .in-Break-types .ensures tt .says table ρ lk))) }
+    record {
+      says = λ table ρ lk.
+          args-err _ _ _ _ (b .1 ∙ ap Err (b .2))
+          (c .loop-k .inv table ρ lk
+          ∙ args-stop (now (c .args .part .nodes)) ρ (c .args .part .first) (c .loop-k .k) (c .loop-k .types) _ (c .loop-k-test .taken) (sym (c .in-Break-types .ensures tt .says table ρ lk)));
+    }
 
 pub loop-k-again : need.loop-k-again
 loop-k-again c table ρ lk =
     c .loop-k .inv table ρ lk
     ∙ args-turn (now (c .args .part .nodes)) ρ (c .args .part .first) (c .loop-k .k) (c .loop-k .types) (c .in-Continue-types .field-0) (c .loop-k-test .taken) (search needs)
-      (sym (c .in-Continue-types .ensures tt .says table ρ lk))
+    (sym (c .in-Continue-types .ensures tt .says table ρ lk))
 
 pub returns : need.returns
 returns c = record { says = λ table ρ lk. c .loop-k .inv table ρ lk ∙ args-done (now (c .args .part .nodes)) ρ (c .args .part .first) (c .loop-k .k) (c .loop-k .types) (search needs) (search needs) }

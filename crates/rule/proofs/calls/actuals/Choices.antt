@@ -14,4 +14,4 @@ abbrev pub Inv-loop-k : given.InvT-loop-k
 Inv-loop-k l =
     (table : List Node) (ρ : Names) → Looks table (sight (l .scope)) ρ
     → check-args ρ (args-from (l .part .first) (now (l .part .nodes)))
-      ≡ args-rest ρ (take (l .k) (l .types)) (args-from (l .part .first + l .k) (drop (l .k) (now (l .part .nodes))))
+    ≡ args-rest ρ (take (l .k) (l .types)) (args-from (l .part .first + l .k) (drop (l .k) (now (l .part .nodes))))

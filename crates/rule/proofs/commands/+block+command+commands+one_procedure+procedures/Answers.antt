@@ -47,11 +47,12 @@ command-block-requires t c κs =
 
 pub command-returns-in-Block : need.command-returns-in-Block
 command-returns-in-Block t c =
-    record
-    { says = λ x ρ is lk.
-        let w = c .in-Block .ensures tt .shows x is in
-        block-is w ρ _ (c .block .ensures .says (placed (c .args .part)) (w .ps) (w .cs) ρ (w .procedures) (w .commands) lk)
-    ; kept = c .block .ensures .kept }
+    record {
+      says = λ x ρ is lk.
+          let w = c .in-Block .ensures tt .shows x is in
+          block-is w ρ _ (c .block .ensures .says (placed (c .args .part)) (w .ps) (w .cs) ρ (w .procedures) (w .commands) lk);
+      kept = c .block .ensures .kept;
+    }
 
 -- ---- commands
 pub commands-returns-then-part-eq0 : need.commands-returns-then-part-eq0
@@ -72,11 +73,12 @@ commands-commands-requires t c κs =
 pub commands-returns-in-Break-n : need.commands-returns-in-Break-n
 commands-returns-in-Break-n t c =
     let b = err-from-errBy (c .from-residual .result) (c .from-residual .ensures .1) in
-    record
-    { says = λ cs ρ is lk.
-        b .1 ∙ ap Err (b .2)
-        ∙ coms-front-bad (coms-split (c .args .part) cs (omega (arith, c .if-part-eq0 .left)) is .parts _ _ (c .split-last .ensures .lasts)) _ _ ρ lk _ (c .in-Break-n .ensures tt .says)
-    ; kept = kept-err _ _ _ _ (b .1) }
+    record {
+      says = λ cs ρ is lk.
+          b .1 ∙ ap Err (b .2)
+          ∙ coms-front-bad (coms-split (c .args .part) cs (omega (arith, c .if-part-eq0 .left)) is .parts _ _ (c .split-last .ensures .lasts)) _ _ ρ lk _ (c .in-Break-n .ensures tt .says);
+      kept = kept-err _ _ _ _ (b .1);
+    }
 
 pub commands-command-requires : need.commands-command-requires
 commands-command-requires t c κs =
@@ -88,30 +90,33 @@ commands-command-requires t c κs =
 pub commands-returns-in-Break-m : need.commands-returns-in-Break-m
 commands-returns-in-Break-m t c =
     let b = err-from-errBy (c .from-residual-in-Break-m .result) (c .from-residual-in-Break-m .ensures .1) in
-    record
-    { says = λ cs ρ is lk.
-        b .1 ∙ ap Err (b .2)
-        ∙ coms-last-bad (coms-split (c .args .part) cs (omega (arith, c .if-part-eq0 .left)) is .parts _ _ (c .split-last .ensures .lasts)) _ _ ρ lk _ _ _ (c .in-Continue-n .ensures tt .says)
-          (kept-looks ρ (c .in-Continue-n .ensures tt .kept) (c .args .scope .now .low) lk) (c .in-Break-m .ensures tt .says)
-    ; kept = kept-err _ _ _ _ (b .1) }
+    record {
+      says = λ cs ρ is lk.
+          b .1 ∙ ap Err (b .2)
+          ∙ coms-last-bad (coms-split (c .args .part) cs (omega (arith, c .if-part-eq0 .left)) is .parts _ _ (c .split-last .ensures .lasts)) _ _ ρ lk _ _ _ (c .in-Continue-n .ensures tt .says)
+          (kept-looks ρ (c .in-Continue-n .ensures tt .kept) (c .args .scope .now .low) lk) (c .in-Break-m .ensures tt .says);
+      kept = kept-err _ _ _ _ (b .1);
+    }
 
 pub commands-returns : need.commands-returns
 commands-returns t c =
-    record
-    { says = λ cs ρ is lk.
-        coms-well (coms-split (c .args .part) cs (omega (arith, c .if-part-eq0 .left)) is .parts _ _ (c .split-last .ensures .lasts)) _ _ ρ lk _ _ _ _ (c .in-Continue-n .ensures tt .says)
-        (kept-looks ρ (c .in-Continue-n .ensures tt .kept) (c .args .scope .now .low) lk) (c .in-Continue-m .ensures tt .says) (c .larger .ensures .larger)
-    ; kept = kept-then (c .in-Continue-n .ensures tt .kept) (c .in-Continue-m .ensures tt .kept) }
+    record {
+      says = λ cs ρ is lk.
+          coms-well (coms-split (c .args .part) cs (omega (arith, c .if-part-eq0 .left)) is .parts _ _ (c .split-last .ensures .lasts)) _ _ ρ lk _ _ _ _ (c .in-Continue-n .ensures tt .says)
+          (kept-looks ρ (c .in-Continue-n .ensures tt .kept) (c .args .scope .now .low) lk) (c .in-Continue-m .ensures tt .says) (c .larger .ensures .larger);
+      kept = kept-then (c .in-Continue-n .ensures tt .kept) (c .in-Continue-m .ensures tt .kept);
+    }
 
 -- ---- one procedure
 pub one-procedure-returns-in-Break-check-names : need.one-procedure-returns-in-Break-check-names
 one-procedure-returns-in-Break-check-names t c =
     let b = err-from-errBy (c .from-residual .result) (c .from-residual .ensures .1) in
-    record
-    { says = λ i m fs x ρ is lk.
-        routine-err (now (c .args .table)) _ _ fs _ (b .1 ∙ ap Err (b .2))
-        (proc-names-bad (now (c .args .table)) (proc-parts (c .args .part) _ _ i m fs x is (c .procedure-parts .ensures .cuts)) ρ _ (c .in-Break-check-names .ensures tt .says))
-    ; kept = kept-err _ _ _ _ (b .1) }
+    record {
+      says = λ i m fs x ρ is lk.
+          routine-err (now (c .args .table)) _ _ fs _ (b .1 ∙ ap Err (b .2))
+          (proc-names-bad (now (c .args .table)) (proc-parts (c .args .part) _ _ i m fs x is (c .procedure-parts .ensures .cuts)) ρ _ (c .in-Break-check-names .ensures tt .says));
+      kept = kept-err _ _ _ _ (b .1);
+    }
 
 pub one-procedure-command-requires : need.one-procedure-command-requires
 one-procedure-command-requires t c κs =
@@ -123,33 +128,38 @@ one-procedure-command-requires t c κs =
 pub one-procedure-returns-in-Break-need : need.one-procedure-returns-in-Break-need
 one-procedure-returns-in-Break-need t c =
     let b = err-from-errBy (c .from-residual-in-Break-need .result) (c .from-residual-in-Break-need .ensures .1) in
-    record
-    { says = λ i m fs x ρ is lk.
-        let w = proc-parts (c .args .part) _ _ i m fs x is (c .procedure-parts .ensures .cuts) in
-        routine-err (now (c .args .table)) _ _ fs _ (b .1 ∙ ap Err (b .2))
-        (proc-body (now (c .args .table)) w ρ _ _ (c .in-Continue-check-names .ensures tt .says)
-         (body-looks (now (c .args .table)) w (now (c .args .scope)) (c .see-from .last .scope) (c .enter-all .last .scope) (c .args .inner) ρ (c .see-from .ensures .turned) (c .enter-all .ensures .sight) lk) (c .in-Break-need .ensures tt .says))
-    ; kept = kept-err _ _ _ _ (b .1) }
+    record {
+      says = λ i m fs x ρ is lk.
+          let w = proc-parts (c .args .part) _ _ i m fs x is (c .procedure-parts .ensures .cuts) in
+          routine-err (now (c .args .table)) _ _ fs _ (b .1 ∙ ap Err (b .2))
+          (proc-body (now (c .args .table)) w ρ _ _ (c .in-Continue-check-names .ensures tt .says)
+          (body-looks (now (c .args .table)) w (now (c .args .scope)) (c .see-from .last .scope) (c .enter-all .last .scope) (c .args .inner) ρ (c .see-from .ensures .turned) (c .enter-all .ensures .sight) lk) (c .in-Break-need .ensures tt .says));
+      kept = kept-err _ _ _ _ (b .1);
+    }
 
 pub one-procedure-returns : need.one-procedure-returns
 one-procedure-returns t c =
-    record
-    { says = λ i m fs x ρ is lk.
-        let w = proc-parts (c .args .part) _ _ i m fs x is (c .procedure-parts .ensures .cuts) in
-        let k = proc-types w (c .pre .some .lies) in
-        ( proc-body (now (c .args .table)) w ρ _ _ (c .in-Continue-check-names .ensures tt .says)
-          (body-looks (now (c .args .table)) w (now (c .args .scope)) (c .see-from .last .scope) (c .enter-all .last .scope) (c .args .inner) ρ (c .see-from .ensures .turned) (c .enter-all .ensures .sight) lk) (c .in-Continue-need .ensures tt .says)
-        , k .0, k .1 )
-    ; kept =
-        back-kept (grown-kept (grown-then (grown-turned (c .see-from .ensures .turned)) (c .enter-all .ensures .grown)) (c .in-Continue-need .ensures tt .kept)) (c .back-to .ensures .returned)
-        (c .mark-mark .ensures .top) (c .mark-mark .ensures .head) }
+    record {
+      says = λ i m fs x ρ is lk.
+          let w = proc-parts (c .args .part) _ _ i m fs x is (c .procedure-parts .ensures .cuts) in
+          let k = proc-types w (c .pre .some .lies) in (
+            proc-body (now (c .args .table)) w ρ _ _ (c .in-Continue-check-names .ensures tt .says)
+                (body-looks (now (c .args .table)) w (now (c .args .scope)) (c .see-from .last .scope) (c .enter-all .last .scope) (c .args .inner) ρ (c .see-from .ensures .turned) (c .enter-all .ensures .sight) lk) (c .in-Continue-need .ensures tt .says),
+            k .0,
+            k .1,
+          );
+      kept =
+          back-kept (grown-kept (grown-then (grown-turned (c .see-from .ensures .turned)) (c .enter-all .ensures .grown)) (c .in-Continue-need .ensures tt .kept)) (c .back-to .ensures .returned)
+          (c .mark-mark .ensures .top) (c .mark-mark .ensures .head);
+    }
 
 -- ---- procedures
 pub procedures-returns-then-part-eq0 : need.procedures-returns-then-part-eq0
 procedures-returns-then-part-eq0 t c =
-    record
-    { says = λ ps ρ τ is lk ll. no-procs-said (now (c .args .table)) (c .args .part) ps ρ τ _ (c .if-part-eq0 .taken) is ll
-    ; grown = λ ps is. grown-as (sym (ap how-many-procs (procs-none (c .args .part) ps (c .if-part-eq0 .taken) is))) (grown-none (now (c .args .scope))) }
+    record {
+      says = λ ps ρ τ is lk ll. no-procs-said (now (c .args .table)) (c .args .part) ps ρ τ _ (c .if-part-eq0 .taken) is ll;
+      grown = λ ps is. grown-as (sym (ap how-many-procs (procs-none (c .args .part) ps (c .if-part-eq0 .taken) is))) (grown-none (now (c .args .scope)));
+    }
 
 pub procedures-split-last-requires : need.procedures-split-last-requires
 procedures-split-last-requires t c κs =
@@ -166,11 +176,12 @@ procedures-procedures-requires t c κs =
 pub procedures-returns-in-Break-procedures : need.procedures-returns-in-Break-procedures
 procedures-returns-in-Break-procedures t c =
     let b = err-from-errBy (c .from-residual .result) (c .from-residual .ensures .1) in
-    record
-    { says = λ ps ρ τ is lk ll.
-        procs-err (now (c .args .table)) _ _ _ _ (b .1 ∙ ap Err (b .2))
-        (procs-front-bad (now (c .args .table)) (procs-split (c .args .part) ps (omega (arith, c .if-part-eq0 .left)) is .parts _ _ (c .split-last .ensures .lasts)) _ _ ρ τ lk ll _ (sight (c .procedures .last .scope)) (c .in-Break-procedures .ensures tt .says))
-    ; grown = λ ps is. grown-err _ _ _ _ _ (b .1) }
+    record {
+      says = λ ps ρ τ is lk ll.
+          procs-err (now (c .args .table)) _ _ _ _ (b .1 ∙ ap Err (b .2))
+          (procs-front-bad (now (c .args .table)) (procs-split (c .args .part) ps (omega (arith, c .if-part-eq0 .left)) is .parts _ _ (c .split-last .ensures .lasts)) _ _ ρ τ lk ll _ (sight (c .procedures .last .scope)) (c .in-Break-procedures .ensures tt .says));
+      grown = λ ps is. grown-err _ _ _ _ _ (b .1);
+    }
 
 pub procedures-one-procedure-requires : need.procedures-one-procedure-requires
 procedures-one-procedure-requires t c κs =
@@ -182,13 +193,14 @@ procedures-one-procedure-requires t c κs =
 pub procedures-returns-in-Break-made : need.procedures-returns-in-Break-made
 procedures-returns-in-Break-made t c =
     let b = err-from-errBy (c .from-residual-in-Break-made .result) (c .from-residual-in-Break-made .ensures .1) in
-    record
-    { says = λ ps ρ τ is lk ll.
-        let w = procs-split (c .args .part) ps (omega (arith, c .if-part-eq0 .left)) is .parts _ _ (c .split-last .ensures .lasts) in
-        procs-err (now (c .args .table)) _ _ _ _ (b .1 ∙ ap Err (b .2))
-        (made-bad (now (c .args .table)) w _ _ ρ τ lk ll _ _ (c .in-Continue-procedures .ensures tt .says)
-         (c .in-Continue-procedures .ensures tt .grown (w .init) (w .front) .older (c .args .inner) (c .pre .some .low)) _ (c .in-Break-made .ensures tt .says))
-    ; grown = λ ps is. grown-err _ _ _ _ _ (b .1) }
+    record {
+      says = λ ps ρ τ is lk ll.
+          let w = procs-split (c .args .part) ps (omega (arith, c .if-part-eq0 .left)) is .parts _ _ (c .split-last .ensures .lasts) in
+          procs-err (now (c .args .table)) _ _ _ _ (b .1 ∙ ap Err (b .2))
+          (made-bad (now (c .args .table)) w _ _ ρ τ lk ll _ _ (c .in-Continue-procedures .ensures tt .says)
+          (c .in-Continue-procedures .ensures tt .grown (w .init) (w .front) .older (c .args .inner) (c .pre .some .low)) _ (c .in-Break-made .ensures tt .says));
+      grown = λ ps is. grown-err _ _ _ _ _ (b .1);
+    }
 
 pub procedures-last-name-requires : need.procedures-last-name-requires
 procedures-last-name-requires t c κs =
@@ -210,14 +222,15 @@ procedures-place-requires t c κs =
 
 pub procedures-returns-then-named : need.procedures-returns-then-named
 procedures-returns-then-named t c =
-    record
-    { says = λ ps ρ τ is lk ll.
-        let w = procs-split (c .args .part) ps (omega (arith, c .if-part-eq0 .left)) is .parts _ _ (c .split-last .ensures .lasts) in
-        sym (made-twice (now (c .args .table)) w _ _ ρ τ lk ll _ _ (c .in-Continue-procedures .ensures tt .says)
-         (c .in-Continue-procedures .ensures tt .grown (w .init) (w .front) .older (c .args .inner) (c .pre .some .low))
-         (c .in-Continue-made .made) (c .last-name .result) (c .named .result) (c .in-Continue-made .ensures tt .says) (c .last-name .ensures .node) (c .named .ensures .found)
-         (c .refuse .result) (c .place .result) (c .refuse .ensures .fault) (c .place .ensures .number) (c .if-named .taken))
-    ; grown = λ ps is. tt }
+    record {
+      says = λ ps ρ τ is lk ll.
+          let w = procs-split (c .args .part) ps (omega (arith, c .if-part-eq0 .left)) is .parts _ _ (c .split-last .ensures .lasts) in
+          sym (made-twice (now (c .args .table)) w _ _ ρ τ lk ll _ _ (c .in-Continue-procedures .ensures tt .says)
+          (c .in-Continue-procedures .ensures tt .grown (w .init) (w .front) .older (c .args .inner) (c .pre .some .low))
+          (c .in-Continue-made .made) (c .last-name .result) (c .named .result) (c .in-Continue-made .ensures tt .says) (c .last-name .ensures .node) (c .named .ensures .found)
+          (c .refuse .result) (c .place .result) (c .refuse .ensures .fault) (c .place .ensures .number) (c .if-named .taken));
+      grown = λ ps is. tt;
+    }
 
 pub procedures-enter-requires : need.procedures-enter-requires
 procedures-enter-requires t c κs =
@@ -227,16 +240,17 @@ procedures-enter-requires t c κs =
 
 pub procedures-returns : need.procedures-returns
 procedures-returns t c =
-    record
-    { says = λ ps ρ τ is lk ll.
-        let w = procs-split (c .args .part) ps (omega (arith, c .if-part-eq0 .left)) is .parts _ _ (c .split-last .ensures .lasts) in
-        made-well (now (c .args .table)) w _ _ ρ τ lk ll _ _ (c .in-Continue-procedures .ensures tt .says)
-        (c .in-Continue-procedures .ensures tt .grown (w .init) (w .front) .older (c .args .inner) (c .pre .some .low))
-        (c .in-Continue-made .made) (c .last-name .result) (c .named .result) (c .in-Continue-made .ensures tt .says) (c .last-name .ensures .node) (c .named .ensures .found)
-        _ _ (kept-sight (c .in-Continue-made .ensures tt .kept) (c .procedures .last .scope .low)) (c .enter .ensures .sight) (c .if-named .left)
-    ; grown = λ ps is.
-        let w = procs-split (c .args .part) ps (omega (arith, c .if-part-eq0 .left)) is .parts _ _ (c .split-last .ensures .lasts) in
-        more-grown (now (c .args .table)) w (c .in-Continue-procedures .ensures tt .grown (w .init) (w .front)) (c .in-Continue-made .ensures tt .kept) (c .enter .ensures .grown) }
+    record {
+      says = λ ps ρ τ is lk ll.
+          let w = procs-split (c .args .part) ps (omega (arith, c .if-part-eq0 .left)) is .parts _ _ (c .split-last .ensures .lasts) in
+          made-well (now (c .args .table)) w _ _ ρ τ lk ll _ _ (c .in-Continue-procedures .ensures tt .says)
+          (c .in-Continue-procedures .ensures tt .grown (w .init) (w .front) .older (c .args .inner) (c .pre .some .low))
+          (c .in-Continue-made .made) (c .last-name .result) (c .named .result) (c .in-Continue-made .ensures tt .says) (c .last-name .ensures .node) (c .named .ensures .found)
+          _ _ (kept-sight (c .in-Continue-made .ensures tt .kept) (c .procedures .last .scope .low)) (c .enter .ensures .sight) (c .if-named .left);
+      grown = λ ps is.
+          let w = procs-split (c .args .part) ps (omega (arith, c .if-part-eq0 .left)) is .parts _ _ (c .split-last .ensures .lasts) in
+          more-grown (now (c .args .table)) w (c .in-Continue-procedures .ensures tt .grown (w .init) (w .front)) (c .in-Continue-made .ensures tt .kept) (c .enter .ensures .grown);
+    }
 
 -- ---- block
 pub block-hide-requires : need.block-hide-requires
@@ -248,58 +262,70 @@ block-enter-all-requires t c κs = let s = c .pre .some in record { room = enter
 pub block-procedures-requires : need.block-procedures-requires
 block-procedures-requires t c κs =
     let s = c .pre .some in
-    let falls : 5 * long (c .args .procs) + 3 < t = omega (arith, c .measured) in
-    (falls
-    , ( pass-procs (c .args .variables) (c .args .procs) (c .args .coms) (now (c .args .scope)) (c .hide .last .scope) (c .enter-all .last .scope) (c .position-inner .result) (c .hide .ensures .sight) (c .enter-all .ensures .sight) (c .position-inner .ensures .head) s
-        (c .position-inner .ensures .there) (c .hide .ensures .grown (s .ps) (s .procedures)) (c .enter-all .ensures .grown)
-      , c .pre .types ))
+    let falls : 5 * long (c .args .procs) + 3 < t = omega (arith, c .measured) in (
+      falls,
+      (
+        pass-procs (c .args .variables) (c .args .procs) (c .args .coms) (now (c .args .scope)) (c .hide .last .scope) (c .enter-all .last .scope) (c .position-inner .result) (c .hide .ensures .sight) (c .enter-all .ensures .sight) (c .position-inner .ensures .head) s
+            (c .position-inner .ensures .there) (c .hide .ensures .grown (s .ps) (s .procedures)) (c .enter-all .ensures .grown),
+        c .pre .types,
+      ),
+    )
 
 pub block-returns-in-Break-procedures : need.block-returns-in-Break-procedures
 block-returns-in-Break-procedures t c =
     let b = err-from-errBy (c .from-residual-in-Break-procedures .result) (c .from-residual-in-Break-procedures .ensures .1) in
-    record
-    { says = λ i ps cs ρ iq ir lk.
-        b .1 ∙ ap Err (b .2)
-        ∙ block-procs-bad (c .args .variables) (c .args .procs) (c .args .coms) (now (c .args .scope)) (c .hide .last .scope) (c .enter-all .last .scope) (c .position-inner .result) (c .hide .ensures .sight) (c .enter-all .ensures .sight) (c .position-inner .ensures .head)
-          ps ρ iq lk (c .in-Continue-check-names .ensures tt .says) i cs _ (sight (c .procedures .last .scope)) (c .in-Break-procedures .ensures tt .says)
-    ; kept = kept-err _ _ _ _ (b .1) }
+    record {
+      says = λ i ps cs ρ iq ir lk.
+          b .1 ∙ ap Err (b .2)
+          ∙ block-procs-bad (c .args .variables) (c .args .procs) (c .args .coms) (now (c .args .scope)) (c .hide .last .scope) (c .enter-all .last .scope) (c .position-inner .result) (c .hide .ensures .sight) (c .enter-all .ensures .sight) (c .position-inner .ensures .head)
+          ps ρ iq lk (c .in-Continue-check-names .ensures tt .says) i cs _ (sight (c .procedures .last .scope)) (c .in-Break-procedures .ensures tt .says);
+      kept = kept-err _ _ _ _ (b .1);
+    }
 
 pub block-commands-requires : need.block-commands-requires
 block-commands-requires t c κs =
     let s = c .pre .some in
-    let falls : 5 * long (c .args .coms) + 2 < t = omega (arith, c .measured) in
-    (falls
-    , ( pass-block-coms (c .args .variables) (c .args .procs) (c .args .coms) (now (c .args .scope)) (c .hide .last .scope) (c .enter-all .last .scope) (c .position-inner .result) (c .hide .ensures .sight) (c .enter-all .ensures .sight) (c .position-inner .ensures .head) s
-        (c .in-Continue-check-names .ensures tt .says) (c .in-Continue-procedures .ensures tt .says)
-        (c .hide .ensures .grown (s .ps) (s .procedures)) (c .enter-all .ensures .grown) (c .in-Continue-procedures .ensures tt .grown (s .ps) (s .procedures))
-      , search needs ))
+    let falls : 5 * long (c .args .coms) + 2 < t = omega (arith, c .measured) in (
+      falls,
+      (
+        pass-block-coms (c .args .variables) (c .args .procs) (c .args .coms) (now (c .args .scope)) (c .hide .last .scope) (c .enter-all .last .scope) (c .position-inner .result) (c .hide .ensures .sight) (c .enter-all .ensures .sight) (c .position-inner .ensures .head) s
+            (c .in-Continue-check-names .ensures tt .says) (c .in-Continue-procedures .ensures tt .says)
+            (c .hide .ensures .grown (s .ps) (s .procedures)) (c .enter-all .ensures .grown) (c .in-Continue-procedures .ensures tt .grown (s .ps) (s .procedures)),
+        search needs,
+      ),
+    )
 
 pub block-returns-in-Break-need : need.block-returns-in-Break-need
 block-returns-in-Break-need t c =
     let b = err-from-errBy (c .from-residual-in-Break-need .result) (c .from-residual-in-Break-need .ensures .1) in
-    record
-    { says = λ i ps cs ρ iq ir lk.
-        b .1 ∙ ap Err (b .2)
-        ∙ block-coms-bad (c .args .variables) (c .args .procs) (c .args .coms) (now (c .args .scope)) (c .hide .last .scope) (c .enter-all .last .scope) (c .position-inner .result) (c .hide .ensures .sight) (c .enter-all .ensures .sight) (c .position-inner .ensures .head)
-          ps ρ iq lk (c .in-Continue-check-names .ensures tt .says) (sight (c .procedures .last .scope)) (c .in-Continue-procedures .ensures tt .says) cs ir i _ (c .in-Break-need .ensures tt .says)
-    ; kept = kept-err _ _ _ _ (b .1) }
+    record {
+      says = λ i ps cs ρ iq ir lk.
+          b .1 ∙ ap Err (b .2)
+          ∙ block-coms-bad (c .args .variables) (c .args .procs) (c .args .coms) (now (c .args .scope)) (c .hide .last .scope) (c .enter-all .last .scope) (c .position-inner .result) (c .hide .ensures .sight) (c .enter-all .ensures .sight) (c .position-inner .ensures .head)
+          ps ρ iq lk (c .in-Continue-check-names .ensures tt .says) (sight (c .procedures .last .scope)) (c .in-Continue-procedures .ensures tt .says) cs ir i _ (c .in-Break-need .ensures tt .says);
+      kept = kept-err _ _ _ _ (b .1);
+    }
 
 pub block-add-result : need.block-add-result
 block-add-result t c =
     let s = c .pre .some in
-    omega (arith, s .seen .fits
-      , block-small (c .args .variables) (c .args .procs) (c .args .coms) (now (c .args .scope)) (c .hide .last .scope) (c .enter-all .last .scope) (c .position-inner .result) (c .hide .ensures .sight) (c .enter-all .ensures .sight) (c .position-inner .ensures .head)
-        (s .ps) (s .seen .ρ) (s .procedures) (s .seen .looks) (c .in-Continue-check-names .ensures tt .says) (sight (c .procedures .last .scope)) (c .in-Continue-procedures .ensures tt .says) (s .cs) (s .commands)
-        (s .seen .B) (c .in-Continue-need .need) (s .seen .bounded) (c .in-Continue-need .ensures tt .says))
+    omega (
+      arith,
+      s .seen .fits,
+      block-small (c .args .variables) (c .args .procs) (c .args .coms) (now (c .args .scope)) (c .hide .last .scope) (c .enter-all .last .scope) (c .position-inner .result) (c .hide .ensures .sight) (c .enter-all .ensures .sight) (c .position-inner .ensures .head)
+          (s .ps) (s .seen .ρ) (s .procedures) (s .seen .looks) (c .in-Continue-check-names .ensures tt .says) (sight (c .procedures .last .scope)) (c .in-Continue-procedures .ensures tt .says) (s .cs) (s .commands)
+          (s .seen .B) (c .in-Continue-need .need) (s .seen .bounded) (c .in-Continue-need .ensures tt .says),
+    )
 
 pub block-returns : need.block-returns
 block-returns t c =
     let s = c .pre .some in
-    record
-    { says = λ i ps cs ρ iq ir lk.
-        block-well (c .args .variables) (c .args .procs) (c .args .coms) (now (c .args .scope)) (c .hide .last .scope) (c .enter-all .last .scope) (c .position-inner .result) (c .hide .ensures .sight) (c .enter-all .ensures .sight) (c .position-inner .ensures .head)
-        ps ρ iq lk (c .in-Continue-check-names .ensures tt .says) (sight (c .procedures .last .scope)) (c .in-Continue-procedures .ensures tt .says) cs ir i (c .in-Continue-need .need) (c .in-Continue-need .ensures tt .says)
-    ; kept =
-        back-kept
-        (grown-kept (grown-then (grown-then (c .hide .ensures .grown (s .ps) (s .procedures)) (c .enter-all .ensures .grown)) (c .in-Continue-procedures .ensures tt .grown (s .ps) (s .procedures))) (c .in-Continue-need .ensures tt .kept))
-        (c .back-to .ensures .returned) (c .mark-mark .ensures .top) (c .mark-mark .ensures .head) }
+    record {
+      says = λ i ps cs ρ iq ir lk.
+          block-well (c .args .variables) (c .args .procs) (c .args .coms) (now (c .args .scope)) (c .hide .last .scope) (c .enter-all .last .scope) (c .position-inner .result) (c .hide .ensures .sight) (c .enter-all .ensures .sight) (c .position-inner .ensures .head)
+          ps ρ iq lk (c .in-Continue-check-names .ensures tt .says) (sight (c .procedures .last .scope)) (c .in-Continue-procedures .ensures tt .says) cs ir i (c .in-Continue-need .need) (c .in-Continue-need .ensures tt .says);
+      kept =
+          back-kept
+          (grown-kept (grown-then (grown-then (c .hide .ensures .grown (s .ps) (s .procedures)) (c .enter-all .ensures .grown)) (c .in-Continue-procedures .ensures tt .grown (s .ps) (s .procedures))) (c .in-Continue-need .ensures tt .kept))
+          (c .back-to .ensures .returned) (c .mark-mark .ensures .top) (c .mark-mark .ensures .head);
+    }

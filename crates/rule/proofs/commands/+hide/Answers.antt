@@ -34,10 +34,14 @@ hide-requires t c κs =
 
 pub returns-then-procs-gt0 : need.returns-then-procs-gt0
 returns-then-procs-gt0 t c =
-    record { sight = λ ps is. hides (procs-split (c .args .procs) ps (c .if-procs-gt0 .taken) is .parts _ _ (c .split-last .ensures .lasts)) (c .last .result) _ _ _ (c .last .ensures .node) (c .enter .ensures .sight) (c .hide .ensures .sight)
-           ; grown = λ ps is. hidden-grown (procs-split (c .args .procs) ps (c .if-procs-gt0 .taken) is .parts _ _ (c .split-last .ensures .lasts)) (c .enter .ensures .grown) (c .hide .ensures .grown) }
+    record {
+      sight = λ ps is. hides (procs-split (c .args .procs) ps (c .if-procs-gt0 .taken) is .parts _ _ (c .split-last .ensures .lasts)) (c .last .result) _ _ _ (c .last .ensures .node) (c .enter .ensures .sight) (c .hide .ensures .sight);
+      grown = λ ps is. hidden-grown (procs-split (c .args .procs) ps (c .if-procs-gt0 .taken) is .parts _ _ (c .split-last .ensures .lasts)) (c .enter .ensures .grown) (c .hide .ensures .grown);
+    }
 
 pub returns-else-procs-gt0 : need.returns-else-procs-gt0
 returns-else-procs-gt0 t c =
-    record { sight = λ ps is. sym (ap (λ ps. hidden (proc-names ps) (sight (now (c .args .scope)))) (procs-none (c .args .procs) ps (omega (arith, c .if-procs-gt0 .left)) is))
-           ; grown = λ ps is. grown-as (sym (ap how-many-procs (procs-none (c .args .procs) ps (omega (arith, c .if-procs-gt0 .left)) is))) (grown-none (now (c .args .scope))) }
+    record {
+      sight = λ ps is. sym (ap (λ ps. hidden (proc-names ps) (sight (now (c .args .scope)))) (procs-none (c .args .procs) ps (omega (arith, c .if-procs-gt0 .left)) is));
+      grown = λ ps is. grown-as (sym (ap how-many-procs (procs-none (c .args .procs) ps (omega (arith, c .if-procs-gt0 .left)) is))) (grown-none (now (c .args .scope)));
+    }

@@ -29,11 +29,15 @@ named-requires t c κs =
     (falls, (w .init, w .front))
 
 pub returns-then-same-name : need.returns-then-same-name
-returns-then-same-name t c = record { found = λ ps is.
-    named-here (procs-split (c .args .procs) ps (omega (arith, c .if-procs-eq0 .left)) is .parts _ _ (c .split-last .ensures .lasts)) (c .args .name) (c .last .result) (c .same-name .result)
-    (c .last .ensures .node) (c .same-name .ensures) (c .if-same-name .taken) }
+returns-then-same-name t c = record {
+  found = λ ps is.
+      named-here (procs-split (c .args .procs) ps (omega (arith, c .if-procs-eq0 .left)) is .parts _ _ (c .split-last .ensures .lasts)) (c .args .name) (c .last .result) (c .same-name .result)
+      (c .last .ensures .node) (c .same-name .ensures) (c .if-same-name .taken);
+}
 
 pub returns-else-same-name : need.returns-else-same-name
-returns-else-same-name t c = record { found = λ ps is.
-    named-on (procs-split (c .args .procs) ps (omega (arith, c .if-procs-eq0 .left)) is .parts _ _ (c .split-last .ensures .lasts)) (c .args .name) (c .last .result) (c .same-name .result) (c .named .result)
-    (c .last .ensures .node) (c .same-name .ensures) (c .if-same-name .left) (c .named .ensures .found) }
+returns-else-same-name t c = record {
+  found = λ ps is.
+      named-on (procs-split (c .args .procs) ps (omega (arith, c .if-procs-eq0 .left)) is .parts _ _ (c .split-last .ensures .lasts)) (c .args .name) (c .last .result) (c .same-name .result) (c .named .result)
+      (c .last .ensures .node) (c .same-name .ensures) (c .if-same-name .left) (c .named .ensures .found);
+}

@@ -8,6 +8,7 @@ returns-then-same-name c =
     record { found = declared-here (c .args .nodes .now) (c .args .name) (c .loop-left .left) (c .same-name .result) (c .loop-left-test .taken) (c .same-name .ensures) (c .if-same-name .taken) ∙ c .loop-left .inv .0 }
 
 pub loop-left-again : need.loop-left-again
-loop-left-again c =
-    ( declared-on (c .args .nodes .now) (c .args .name) (c .loop-left .left) (c .same-name .result) (c .loop-left-test .taken) (c .same-name .ensures) (c .if-same-name .left) ∙ c .loop-left .inv .0
-    , omega (arith, c .loop-left .inv .1))
+loop-left-again c = (
+  declared-on (c .args .nodes .now) (c .args .name) (c .loop-left .left) (c .same-name .result) (c .loop-left-test .taken) (c .same-name .ensures) (c .if-same-name .left) ∙ c .loop-left .inv .0,
+  omega (arith, c .loop-left .inv .1),
+)

@@ -16,8 +16,10 @@ pub operator-requires-in-Less : need.operator-requires-in-Less
 operator-requires-in-Less c κs = record { halved = shape-of (c .args .part) Less (c .pre .some .0) (c .in-Less .ensures tt .kind) (c .pre .some .1) .halved }
 
 pub operator-requires-in-rest : need.operator-requires-in-rest
-operator-requires-in-rest c κs = record { halved = shape-rest (c .args .part) (c .kind .result) (c .pre .some .0) (c .in-rest .not-Truth) (c .in-rest .not-Whole) (c .in-rest .not-Read) (c .in-rest .not-Plus) (c .in-rest .not-Less)
-    (shape-of (c .args .part) (c .kind .result) (c .pre .some .0) (c .kind .ensures .kind) (c .pre .some .1)) .halved }
+operator-requires-in-rest c κs = record {
+  halved = shape-rest (c .args .part) (c .kind .result) (c .pre .some .0) (c .in-rest .not-Truth) (c .in-rest .not-Whole) (c .in-rest .not-Read) (c .in-rest .not-Plus) (c .in-rest .not-Less)
+      (shape-of (c .args .part) (c .kind .result) (c .pre .some .0) (c .kind .ensures .kind) (c .pre .some .1)) .halved;
+}
 
 pub returns-in-Truth : need.returns-in-Truth
 returns-in-Truth c = record { shows = λ x h. shape-of (c .args .part) Truth x (c .in-Truth .ensures tt .kind) h }
@@ -35,8 +37,10 @@ pub returns-in-Less : need.returns-in-Less
 returns-in-Less c = record { shows = λ x h. operates (c .args .part) x (shape-of (c .args .part) Less x (c .in-Less .ensures tt .kind) h) (c .operator-in-Less .ensures .halves) }
 
 pub returns-in-rest : need.returns-in-rest
-returns-in-rest c = record { shows = λ x h.
-    operates (c .args .part) x
-    (shape-rest (c .args .part) (c .kind .result) x (c .in-rest .not-Truth) (c .in-rest .not-Whole) (c .in-rest .not-Read) (c .in-rest .not-Plus) (c .in-rest .not-Less)
-     (shape-of (c .args .part) (c .kind .result) x (c .kind .ensures .kind) h))
-    (c .operator-in-rest .ensures .halves) }
+returns-in-rest c = record {
+  shows = λ x h.
+      operates (c .args .part) x
+      (shape-rest (c .args .part) (c .kind .result) x (c .in-rest .not-Truth) (c .in-rest .not-Whole) (c .in-rest .not-Read) (c .in-rest .not-Plus) (c .in-rest .not-Less)
+      (shape-of (c .args .part) (c .kind .result) x (c .kind .ensures .kind) h))
+      (c .operator-in-rest .ensures .halves);
+}

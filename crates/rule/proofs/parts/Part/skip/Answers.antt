@@ -7,6 +7,7 @@ start-of-start-requires c κs = record { ended = step-back (c .args .self) (c .l
 
 pub loop-left-again : need.loop-left-again
 loop-left-again c =
-    rw (c .start-of-start .ensures .begins)
-    ( step-back (c .args .self) (c .loop-left .left) (c .loop-left .start) (c .loop-left-test .taken) (c .loop-left .inv .0) .next
-    , sym (skip-more (c .args .self) (c .loop-left .left) (c .loop-left .start) (c .loop-left-test .taken)) ∙ c .loop-left .inv .1 )
+    rw (c .start-of-start .ensures .begins) (
+      step-back (c .args .self) (c .loop-left .left) (c .loop-left .start) (c .loop-left-test .taken) (c .loop-left .inv .0) .next,
+      sym (skip-more (c .args .self) (c .loop-left .left) (c .loop-left .start) (c .loop-left-test .taken)) ∙ c .loop-left .inv .1,
+    )
