@@ -10,6 +10,7 @@ use record_store::RecordStoreImpl;
 use rule::Entry;
 use rule::Rule;
 use rule::check;
+use samples::Sample;
 use samples::sample_lines;
 use scope::Record;
 use std::error::AnyError;
@@ -95,24 +96,24 @@ fn hold_shifts<S: Store>(rt: &LibcRuntime, store: &mut S) -> Result<(), AnyError
     show_count(rt, store)
 }
 
-// The need of each sample rule, or the number and the place of its refusal.
-fn check_samples(rt: &LibcRuntime) -> Result<(), AnyError> {
+// The need of a sample rule, or the number and the place of its refusal.
+fn check_sample(rt: &LibcRuntime, sample: Sample) -> Result<(), AnyError> {
     let mut lens = [0; WORK];
     let mut names = [Record::blank(Entry::Hidden); WORK];
     let mut types = [Scalar::Whole; WORK];
     let mut rule = Rule::built_in();
-    for sample in sample_lines() {
-        let name = sample.name;
-        match check(&mut rule, sample.nodes, &mut lens, &mut names, &mut types) {
-            Ok(()) => println!(rt, "{name} accepted {}", rule.need())?,
-            Err(fault) => println!(rt, "{name} no {} {}", fault.layer.number(), fault.place)?,
-        }
+    let name = sample.name;
+    match check(&mut rule, sample.nodes, &mut lens, &mut names, &mut types) {
+        Ok(()) => println!(rt, "{name} accepted {}", rule.need())?,
+        Err(fault) => println!(rt, "{name} no {} {}", fault.layer.number(), fault.place)?,
     }
     Ok(())
 }
 
 fn main(rt: LibcRuntime) -> Result<(), AnyError> {
-    check_samples(&rt)?;
+    for sample in sample_lines() {
+        check_sample(&rt, sample)?;
+    }
     println!(rt, "record store")?;
     let mut cells = [Cell::free(); 64];
     hold_shifts(&rt, &mut RecordStore::over(&mut cells))?;
