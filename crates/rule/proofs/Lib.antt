@@ -13,3 +13,4 @@ mod Names
 mod Passes
 mod Blocked
 mod Whole
+mod Flow

@@ -36,6 +36,10 @@ use Rattle.rule.proofs.Splits.{inside-long, lies-inside, Coms-parts, Procs-par
 pub kept-err : {X : Type 0} (r : Result X Fault) (f : Fault) (a b : Scope Entry) → r ≡ Err f → Kept-if r a b
 kept-err r f a b e = rw e tt
 
+pub kept-any : {X : Type 0} (r : Result X Fault) (a : Scope Entry) → Kept-if r a a
+kept-any (Ok x) a = kept-same a
+kept-any (Err f) a = tt
+
 pub grown-err : {X : Type 0} (r : Result X Fault) (f : Fault) (a b : Scope Entry) (d : ℕ) → r ≡ Err f → Grown-if r a b d
 grown-err r f a b d e = rw e tt
 

@@ -4,9 +4,11 @@ use mathlib.Core.Bool.{Bool, true, false, _||_}
 use mathlib.Core.List.{List, [], _∷_}
 use Prim.Native.Nat.{ℕ, _+_, _-_, _*_, _<_, _≤_}
 use native.Mathlib.Omega.{arith}
+use lib.Dec.{eqb}
 use lib.ListN.{length, take, drop}
 use denote.Ref.{now}
 use Rattle.std.proofs.shelf.Lists.{drop-take, take-take, drop-drop}
+use Rattle.std.proofs.shelf.Tests.{eqb-true, eqb-false}
 use Rattle.std.specs.declared.result.Result.{Result}
 use Rattle.std.specs.declared.result.Result.the-variants.{Ok, Err}
 use Rattle.language.specs.declared.tables.Node.{Node}
@@ -30,6 +32,13 @@ use Rattle.rule.proofs.ComShapes.{is-decls, inside}
 use Rattle.rule.proofs.Snocs.{psnoc, csnoc, back-coms, back-procs, com-ended, proc-ended, no-procs, no-coms, some-procs, some-coms}
 use Rattle.rule.proofs.Sights.{types-of, decls-long, seen-snoc, hidden-snoc}
 use Rattle.rule.proofs.Laws.{largest, coms-snoc, one-proc, procs-snoc}
+
+-- a test for no nodes
+pub empty : (b : Bool) (n : ℕ) → b ≡ eqb n 0 → b ≡ true → n ≡ 0
+empty b n e t = eqb-true n 0 (sym e ∙ t)
+
+pub filled : (b : Bool) (n : ℕ) → b ≡ eqb n 0 → b ≡ false → 0 < n
+filled b n e t = let ne : n ≡ 0 → ⊥ = eqb-false n 0 (sym e ∙ t) in omega (arith, ne)
 
 pub inside-long : {p q : Part} → Inside p q → long q ≤ long p
 inside-long i = omega (arith, cut-long (i .cut) (i .order) (i .within), i .within)

@@ -47,11 +47,12 @@ fn hide(procs: Part<'_>, scope: &mut Scope<'_, Entry>)
     ensures sight { λ _. ⌜ ((ps : Procs) → Is-procs (procs .entry) ps → sight (now (scope .exit)) ≡ hidden (proc-names ps) (sight (now (scope .entry)))) ⌝ }
     ensures grown { λ _. ⌜ ((ps : Procs) → Is-procs (procs .entry) ps → Grown (now (scope .entry)) (now (scope .exit)) (how-many-procs ps)) ⌝ }
 {
-    if procs.nodes.len() > 0 {
-        let (front, last) = procs.split_last();
-        enter(scope, last.last().name, Entry::Hidden);
-        hide(front, scope);
+    if procs.nodes.is_empty() {
+        return;
     }
+    let (front, last) = procs.split_last();
+    enter(scope, last.last().name, Entry::Hidden);
+    hide(front, scope);
 }
 
 // Whether one of the procedures has this name.
@@ -59,7 +60,7 @@ fn named(procs: Part<'_>, name: Name) -> bool
     requires some { ⌜ ((ps : Procs) × Is-procs procs ps) ⌝ }
     ensures found { λ r. ⌜ ((ps : Procs) → Is-procs (procs .entry) ps → r ≡ member name (seen-after ps [])) ⌝ }
 {
-    if procs.nodes.len() == 0 {
+    if procs.nodes.is_empty() {
         return false;
     }
     let (front, last) = procs.split_last();
@@ -128,7 +129,7 @@ fn commands(
     ensures says { λ r. ⌜ Coms-says (now (table .entry)) (part .entry) (sight (now (scope .entry))) r ⌝ }
     ensures kept { λ r. ⌜ Kept-if r (now (scope .entry)) (now (scope .exit)) ⌝ }
 {
-    if part.nodes.len() == 0 {
+    if part.nodes.is_empty() {
         return Ok(0);
     }
     let (front, last) = part.split_last();
@@ -177,7 +178,7 @@ fn procedures(
     ensures says { λ r. ⌜ Procs-says (now (table .entry)) (part .entry) (in-sight (now (now (scope .entry) .records)) inner) (sight (now (scope .entry))) r (sight (now (scope .exit))) ⌝ }
     ensures grown { λ r. ⌜ ((ps : Procs) → Is-procs (part .entry) ps → Grown-if r (now (scope .entry)) (now (scope .exit)) (how-many-procs ps)) ⌝ }
 {
-    if part.nodes.len() == 0 {
+    if part.nodes.is_empty() {
         return Ok(());
     }
     let (front, last) = part.split_last();
