@@ -1,30 +1,28 @@
 -- A block, from what the calls say.
-use mathlib.Core.Path.{_≡_, refl, sym, ap, ap₂, subst, _∙_}
-use mathlib.Core.Bool.{Bool, true, false}
-use mathlib.Core.List.{List, [], _∷_}
-use Prim.Native.Nat.{ℕ, _+_, _-_, _*_, _<_, _≤_}
+use mathlib.Core.Path.{_≡_, refl, sym, ap, _∙_}
+use mathlib.Core.List.{List, []}
+use Prim.Native.Nat.{ℕ, _+_, _-_, _≤_}
 use native.Mathlib.Omega.{arith}
 use lib.ListN.{length}
 use denote.Ref.{now}
-use Rattle.std.specs.declared.result.Result.{Result}
 use Rattle.std.specs.declared.result.Result.the-variants.{Ok, Err}
 use Rattle.language.specs.declared.tables.Node.{Node}
 use Rattle.language.specs.declared.faults.Fault.{Fault}
-use Rattle.language.specs.Tree.{Decl, Com, Procs, Coms, block}
+use Rattle.language.specs.Tree.{Decl, Procs, Coms, block}
 use Rattle.language.specs.Results.{_>>=_}
-use Rattle.language.specs.Sight.{look, member, without}
-use Rattle.language.specs.Spelling.{how-many-procs, size-procs, size-coms}
+use Rattle.language.specs.Sight.{look, without}
+use Rattle.language.specs.Spelling.{how-many-procs, size-procs}
 use Rattle.language.specs.Names.{variables, proc-names, check-decls, check-com, check-coms, check-procs}
 use Rattle.scope.specs.Sight.{in-sight}
 use Rattle.scope.specs.declared.Scope.{Scope}
 use Rattle.rule.specs.declared.entries.Entry.{Entry}
 use Rattle.rule.specs.declared.parts.Part.{Part}
-use Rattle.rule.specs.Pieces.{long, Fine, Lies, Is-coms, Is-procs}
+use Rattle.rule.specs.Pieces.{long, Is-coms, Is-procs}
 use Rattle.rule.specs.Rows.{decls-from, entered}
-use Rattle.rule.specs.Seen.{Names, Looks, Bounded, sight, room, Grown, Kept, Returned}
+use Rattle.rule.specs.Seen.{Names, Looks, Bounded, sight, room, Grown}
 use Rattle.rule.specs.Said.{Entries, Sighted, Some-coms, Some-block, Some-procs, Coms-says, Procs-says, hidden}
-use Rattle.rule.proofs.Bounds.{bounded-vars, bounded-without, bounded-more, procs-bound, coms-bound}
-use Rattle.rule.proofs.Grows.{looks-as, grown-then, grown-kept, back-kept}
+use Rattle.rule.proofs.Bounds.{bounded-vars, bounded-without, procs-bound, coms-bound}
+use Rattle.rule.proofs.Grows.{looks-as}
 use Rattle.rule.proofs.Laws.{Agree, Pairs, errs, oks, procs-agree, variables-agree}
 use Rattle.rule.proofs.Sights.{looks-entered, looks-hidden, without-look, decls-long}
 use Rattle.rule.proofs.Splits.{two-each}

@@ -1,8 +1,8 @@
 -- A rule needs no more locations than it has nodes.
-use mathlib.Core.Path.{_≡_, refl, sym, ap, subst, _∙_}
-use mathlib.Core.Bool.{Bool, true, false, _||_, _&&_, not, cond}
+use mathlib.Core.Path.{_≡_, refl, ap, subst}
+use mathlib.Core.Bool.{Bool, true, false, not, cond}
 use mathlib.Core.List.{List, [], _∷_}
-use Prim.Native.Nat.{ℕ, _+_, _<_, _≤_, max}
+use Prim.Native.Nat.{ℕ, _+_, _≤_, max}
 use native.Mathlib.Omega.{arith}
 use lib.Dec.{eqb}
 use lib.ListN.{length}
@@ -11,16 +11,16 @@ use Rattle.std.specs.declared.option.Option.the-variants.{Some, None}
 use Rattle.std.specs.declared.result.Result.{Result}
 use Rattle.std.specs.declared.result.Result.the-variants.{Ok, Err}
 use Rattle.language.specs.declared.values.Scalar.{Scalar}
-use Rattle.language.specs.declared.values.Scalar.the-variants.{Whole as wholes, Truth as truths}
+use Rattle.language.specs.declared.values.Scalar.the-variants.{Truth as truths}
 use Rattle.language.specs.declared.faults.Fault.{Fault}
 use Rattle.language.specs.declared.faults.NamesCause.the-variants.{Repeated, Arguments, Types}
 use Rattle.language.specs.Same.{same}
-use Rattle.language.specs.Tree.{Decl, Arg, Expr, Com, Procs, Coms, null, assign, if, while, call, block, pnil, pcons, cnil, ccons}
+use Rattle.language.specs.Tree.{Decl, Com, Procs, Coms, null, assign, if, while, call, block, pnil, pcons, cnil, ccons}
 use Rattle.language.specs.Results.{_>>=_, asked}
 use Rattle.language.specs.Values.{alike}
 use Rattle.language.specs.Sight.{look, member, without}
 use Rattle.language.specs.Names.{Entry, variable, procedure, refusal, variables, proc-names, types, all-alike, as-variable, as-procedure, check-expr, check-args, check-decls, check-com, check-procs, check-coms}
-use Rattle.language.specs.Spelling.{size-expr, size, size-procs, size-coms}
+use Rattle.language.specs.Spelling.{size, size-procs, size-coms}
 use Rattle.rule.specs.Seen.{Names, Bounded, Below}
 
 pub bind-ok : {A B : Type 0} (r : Result A Fault) (k : A → Result B Fault) (b : B) → (r >>= k) ≡ Ok b → (a : A) × (r ≡ Ok a) × (k a ≡ Ok b)

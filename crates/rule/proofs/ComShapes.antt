@@ -2,9 +2,9 @@
 use mathlib.Core.Path.{_≡_, refl, sym, ap, ap₂, subst, _∙_}
 use mathlib.Core.Bool.{true}
 use mathlib.Core.List.{List, [], _∷_}
-use Prim.Native.Nat.{ℕ, suc, _+_, _-_, _<_, _≤_}
+use Prim.Native.Nat.{ℕ, suc, _+_, _-_, _≤_}
 use native.Mathlib.Omega.{arith}
-use lib.ListN.{length, getD, take, drop}
+use lib.ListN.{length, take, drop}
 use denote.Ref.{now}
 use Rattle.std.specs.Options.{isSome}
 use Rattle.std.specs.declared.option.Option.the-variants.{Some}
@@ -16,13 +16,13 @@ use Rattle.language.specs.declared.values.Scalar.{Scalar}
 use Rattle.language.specs.Kinds.{withNumber}
 use Rattle.language.specs.Table.{typeOf}
 use Rattle.language.specs.Tree.{Decl, Arg, Expr, Com, Procs, Coms, null, assign, if, while, call, block}
-use Rattle.language.specs.Spelling.{how-many-procs, how-many-coms, size-expr, size, size-procs, size-coms}
-use Rattle.table.specs.Stretches.{blank, node-at, Ends, Named, ExprAt, ArgsAt, DeclAt, DeclsAt, ComAt, ProcAt, ProcsAt, ComsAt}
+use Rattle.language.specs.Spelling.{how-many-coms, size-expr, size, size-procs, size-coms}
+use Rattle.table.specs.Stretches.{blank, node-at, Named, ArgsAt, DeclsAt, ComAt, ProcsAt, ComsAt}
 use Rattle.rule.specs.declared.parts.Part.{Part}
-use Rattle.rule.specs.Pieces.{long, last-node, placed, Fine, Cut, begins, Ended, Halved, Halves, Thirded, Thirds, Row-ends, commands-at, Blocked, Block-cuts, Proc-ends, Proc-cuts, Inside, Is-expr, Is-com, Is-coms, Is-procs, Is-proc}
+use Rattle.rule.specs.Pieces.{long, last-node, placed, Cut, begins, Halved, Halves, Thirded, Thirds, commands-at, Blocked, Block-cuts, Inside, Is-com}
 use Rattle.rule.specs.Rows.{decls-from, args-from}
 use Rattle.rule.specs.Shapes.{Assigns, Branches, Loops, Calls, Blocks}
-use Rattle.rule.proofs.Cuts.{com-some, expr-some, is-expr, is-com, is-coms, is-procs, cut-long, cut-fine}
+use Rattle.rule.proofs.Cuts.{com-some, is-expr, is-com, is-coms, is-procs, cut-long, cut-fine}
 use Rattle.rule.proofs.ExprShapes.{ends-last, ends-kind, ends-place, some-is}
 use Rattle.rule.proofs.Snocs.{com-ended, skip-are}
 

@@ -3,17 +3,16 @@ use mathlib.Core.Path.{_≡_, refl, sym, ap, subst, _∙_}
 use mathlib.Core.List.{List, [], _∷_}
 use Prim.Native.Nat.{ℕ, _+_, _-_, _<_, _≤_}
 use native.Mathlib.Omega.{arith}
-use lib.ListN.{length, getD, take, drop}
+use lib.ListN.{length, getD, drop}
 use denote.Ref.{now}
 use Rattle.std.proofs.shelf.Lists.{getD-take, getD-drop, length-drop, length-take-le}
-use Rattle.std.specs.declared.option.Option.the-variants.{Some}
 use Rattle.language.specs.declared.tables.Node.{Node}
 use Rattle.language.specs.declared.tables.Kind.{Kind}
 use Rattle.language.specs.Tree.{Decl, Arg, Expr, Com, Procs, Coms, truth, whole, read, plus, less, or, null, assign, if, while, call, block, pnil, pcons, cnil, ccons}
 use Rattle.language.specs.Kinds.{withNumber}
 use Rattle.language.specs.Table.{typeOf}
 use Rattle.language.specs.Spelling.{size-expr, size, size-procs, size-coms}
-use Rattle.table.specs.Stretches.{blank, node-at, Ends, Named, ExprAt, ArgsAt, DeclAt, DeclsAt, ComAt, ProcAt, ProcsAt, ComsAt}
+use Rattle.table.specs.Stretches.{blank, node-at, Ends, Named, ExprAt, ArgsAt, DeclsAt, ComAt, ProcAt, ProcsAt, ComsAt}
 use Rattle.rule.specs.declared.parts.Part.{Part}
 use Rattle.rule.specs.Pieces.{long, Cut, Fine, Is-expr, Is-com, Is-coms, Is-procs, Is-proc}
 

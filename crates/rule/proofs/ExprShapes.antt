@@ -1,10 +1,9 @@
 -- What the kind of the last node tells of an expression.
 use mathlib.Core.Path.{_≡_, refl, sym, ap, subst, _∙_}
 use mathlib.Core.Bool.{true}
-use mathlib.Core.List.{List}
-use Prim.Native.Nat.{ℕ, _+_, _-_, _<_, _≤_}
+use Prim.Native.Nat.{ℕ, _+_, _-_, _≤_}
 use native.Mathlib.Omega.{arith}
-use lib.ListN.{length, getD}
+use lib.ListN.{getD}
 use denote.Ref.{now}
 use Rattle.std.specs.Options.{isSome}
 use Rattle.std.specs.declared.option.Option.the-variants.{Some}
@@ -19,14 +18,13 @@ use Rattle.language.specs.Tree.{Expr, truth, whole, read, plus, less, or}
 use Rattle.language.specs.Spelling.{size-expr}
 use Rattle.language.specs.Sight.{look}
 use Rattle.language.specs.Names.{as-variable, check-expr}
-use Rattle.table.specs.Stretches.{node-at, Ends, Named, ExprAt}
+use Rattle.table.specs.Stretches.{node-at, Ends, ExprAt}
 use Rattle.rule.specs.declared.parts.Part.{Part}
 use Rattle.rule.specs.declared.expressions.ExprView.{ExprView}
-use Rattle.rule.specs.declared.expressions.ExprView.the-variants.{Operator}
-use Rattle.rule.specs.Pieces.{long, last-node, placed, Fine, Cut, begins, Ended, Halved, Halves, Is-expr}
+use Rattle.rule.specs.Pieces.{long, last-node, placed, Fine, begins, Ended, Halved, Halves, Is-expr}
 use Rattle.rule.specs.Seen.{Names}
 use Rattle.rule.specs.Shown.{both, Pair, Shows, Operates}
-use Rattle.rule.proofs.Cuts.{expr-some, is-expr, cut-long}
+use Rattle.rule.proofs.Cuts.{expr-some, is-expr}
 
 -- two operands can be cut out
 pub record Split (p : Part) (want give : Scalar) (x : Expr) : Type 0 where

@@ -1,7 +1,7 @@
 -- Assignments, conditionals and loops, from what the calls say.
-use mathlib.Core.Path.{_≡_, refl, sym, ap, ap₂, _∙_}
+use mathlib.Core.Path.{_≡_, refl, sym, ap, _∙_}
 use mathlib.Core.List.{List}
-use Prim.Native.Nat.{ℕ, _+_, _≤_, max}
+use Prim.Native.Nat.{ℕ, _≤_, max}
 use native.Mathlib.Omega.{arith}
 use lib.ListN.{length}
 use denote.Ref.{now}
@@ -12,12 +12,12 @@ use Rattle.language.specs.declared.values.Scalar.{Scalar}
 use Rattle.language.specs.declared.values.Scalar.the-variants.{Truth as truths}
 use Rattle.language.specs.declared.faults.Fault.{Fault}
 use Rattle.language.specs.declared.faults.NamesCause.the-variants.{Types}
-use Rattle.language.specs.Tree.{Expr, Com, assign, call, if, while}
+use Rattle.language.specs.Tree.{Expr, Com, assign, call}
 use Rattle.language.specs.Results.{_>>=_, asked}
 use Rattle.language.specs.Values.{alike}
 use Rattle.language.specs.Names.{refusal, check-expr, check-com}
 use Rattle.rule.specs.declared.parts.Part.{Part}
-use Rattle.rule.specs.Pieces.{long, placed, Lies, Is-expr, Is-com}
+use Rattle.rule.specs.Pieces.{long, placed, Lies, Is-expr}
 use Rattle.rule.specs.Rows.{args-from}
 use Rattle.rule.specs.Shapes.{Assigns, Branches, Loops, Calls}
 use Rattle.rule.specs.Seen.{Names, Looks}

@@ -10,7 +10,7 @@ use Rattle.scope.specs.Sight.{in-sight}
 use Rattle.scope.specs.declared.Record.{Record}
 use Rattle.scope.specs.declared.Scope.{Scope}
 use Rattle.rule.specs.declared.entries.Entry.{Entry}
-use Rattle.rule.specs.Seen.{Names, Looks, sight, room, Grown, Kept, Turned, Returned}
+use Rattle.rule.specs.Seen.{Names, Looks, sight, Grown, Kept, Turned, Returned}
 
 pub grown-none : (a : Scope Entry) → Grown a a 0
 grown-none a = record { top = omega arith; long = refl; older = λ h le. refl }

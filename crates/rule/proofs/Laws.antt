@@ -1,10 +1,10 @@
 -- Laws of the definition: rows from their end, and the sight that procedures add to.
-use mathlib.Core.Path.{_≡_, refl, sym, ap, ap₂, subst, _∙_}
-use mathlib.Core.Bool.{Bool, true, false, _||_, not, cond}
+use mathlib.Core.Path.{_≡_, refl, ap, _∙_}
+use mathlib.Core.Bool.{Bool, true, false, not, cond}
 use mathlib.Core.List.{List, [], _∷_}
-use Prim.Native.Nat.{ℕ, _+_, max}
+use Prim.Native.Nat.{ℕ, max}
 use native.Mathlib.Omega.{arith}
-use Rattle.std.specs.declared.option.Option.the-variants.{Some, None}
+use Rattle.std.specs.declared.option.Option.the-variants.{Some}
 use Rattle.std.specs.declared.result.Result.{Result}
 use Rattle.std.specs.declared.result.Result.the-variants.{Ok, Err}
 use Rattle.language.specs.declared.faults.Fault.{Fault}
@@ -12,7 +12,7 @@ use Rattle.language.specs.declared.faults.NamesCause.the-variants.{Repeated}
 use Rattle.language.specs.Same.{same}
 use Rattle.language.specs.Tree.{Decl, Com, Procs, Coms, pnil, pcons, cnil, ccons}
 use Rattle.language.specs.Results.{_>>=_, asked}
-use Rattle.language.specs.Sight.{look, member, without}
+use Rattle.language.specs.Sight.{look, member}
 use Rattle.language.specs.Names.{Entry, variable, procedure, refusal, variables, proc-names, types, check-decls, check-com, check-procs, check-coms}
 use Rattle.rule.specs.Seen.{Names}
 use Rattle.rule.specs.Said.{seen-after, body-said}

@@ -1,21 +1,21 @@
 -- The names of procedures in a row, one more at the end.
-use mathlib.Core.Path.{_≡_, refl, sym, ap, ap₂, subst, _∙_}
+use mathlib.Core.Path.{_≡_, sym, ap, _∙_}
 use mathlib.Core.Bool.{Bool, true, false, _||_}
-use mathlib.Core.List.{List, [], _∷_}
-use Prim.Native.Nat.{ℕ, _+_, _≤_}
+use mathlib.Core.List.{[], _∷_}
+use Prim.Native.Nat.{ℕ}
 use native.Mathlib.Omega.{arith}
 use Rattle.language.specs.declared.tables.Node.{Node}
 use Rattle.language.specs.Same.{same}
 use Rattle.language.specs.Sight.{member}
-use Rattle.language.specs.Tree.{Procs, pnil}
+use Rattle.language.specs.Tree.{Procs}
 use Rattle.language.specs.Spelling.{how-many-procs}
 use Rattle.language.specs.Names.{proc-names}
 use Rattle.scope.specs.declared.Scope.{Scope}
 use Rattle.rule.specs.declared.entries.Entry.{Entry}
 use Rattle.rule.specs.declared.entries.Entry.the-variants.{Hidden}
 use Rattle.rule.specs.declared.parts.Part.{Part}
-use Rattle.rule.specs.Pieces.{long, last-node, Is-procs}
-use Rattle.rule.specs.Seen.{sight, room, Grown}
+use Rattle.rule.specs.Pieces.{last-node, Is-procs}
+use Rattle.rule.specs.Seen.{Grown}
 use Rattle.rule.specs.Said.{Entries, hidden, seen-after}
 use Rattle.rule.proofs.Grows.{grown-then, grown-as}
 use Rattle.rule.proofs.Splits.{Procs-parts}

@@ -1,8 +1,8 @@
 -- What is handed on: each callee gets what it asks for, and what it says is put together.
-use mathlib.Core.Path.{_≡_, refl, sym, ap, ap₂, subst, _∙_}
-use mathlib.Core.Bool.{Bool, true, false, not}
+use mathlib.Core.Path.{_≡_, sym, ap, ap₂, subst, _∙_}
+use mathlib.Core.Bool.{Bool, true, false}
 use mathlib.Core.List.{List, [], _∷_}
-use Prim.Native.Nat.{ℕ, _+_, _-_, _*_, _<_, _≤_, max}
+use Prim.Native.Nat.{ℕ, _+_, _-_, _<_, _≤_, max}
 use native.Mathlib.Omega.{arith}
 use lib.ListN.{length, take, drop}
 use denote.Ref.{now}
@@ -11,10 +11,10 @@ use Rattle.std.specs.declared.result.Result.the-variants.{Ok, Err}
 use Rattle.language.specs.declared.tables.Node.{Node}
 use Rattle.language.specs.declared.faults.Fault.{Fault}
 use Rattle.language.specs.declared.faults.NamesCause.the-variants.{Repeated}
-use Rattle.language.specs.Tree.{Decl, Com, Procs, Coms, pnil, block}
+use Rattle.language.specs.Tree.{Decl, Com, Procs, Coms, block}
 use Rattle.language.specs.Results.{_>>=_}
 use Rattle.language.specs.Sight.{member}
-use Rattle.language.specs.Spelling.{how-many-procs, size}
+use Rattle.language.specs.Spelling.{how-many-procs}
 use Rattle.language.specs.Names.{procedure, refusal, types, variables, check-decls, check-com, check-coms, check-procs}
 use Rattle.scope.specs.Sight.{in-sight}
 use Rattle.scope.specs.declared.Scope.{Scope}
@@ -22,13 +22,13 @@ use Rattle.rule.specs.declared.entries.Entry.{Entry}
 use Rattle.rule.specs.declared.entries.Entry.the-variants.{Procedure}
 use Rattle.rule.specs.declared.entries.Routine.{Routine}
 use Rattle.rule.specs.declared.parts.Part.{Part}
-use Rattle.rule.specs.Pieces.{long, last-node, placed, Inside, Lies, Is-com, Is-coms, Is-proc, Is-procs}
+use Rattle.rule.specs.Pieces.{long, last-node, placed, Inside, Lies, Is-com, Is-coms, Is-procs}
 use Rattle.rule.specs.Rows.{decls-from, entered}
 use Rattle.rule.specs.Shapes.{Blocks}
-use Rattle.rule.specs.Seen.{Names, types-in, Looks, Bounded, sight, room, Grown, Kept, Turned}
+use Rattle.rule.specs.Seen.{Names, types-in, Looks, sight, room, Grown, Kept, Turned}
 use Rattle.rule.specs.Said.{Entries, Sighted, Some-com, Some-coms, Some-block, Some-proc, Some-procs, Com-says, Coms-says, Proc-says, Procs-says, Procs-said, Routine-is, Kept-if, Grown-if, body-said, seen-after}
 use Rattle.rule.proofs.Bounds.{bounded-vars}
-use Rattle.rule.proofs.Grows.{kept-same, kept-sight, kept-looks, looks-as, grown-kept, grown-then, grown-as, grown-turned, turned-sight}
+use Rattle.rule.proofs.Grows.{kept-same, kept-looks, looks-as, grown-kept, grown-then, grown-as, grown-turned, turned-sight}
 use Rattle.rule.proofs.Laws.{largest, one-proc, one-bad, one-twice, one-well}
 use Rattle.rule.proofs.Sights.{looks-entered, looks-proc}
 use Rattle.rule.proofs.Splits.{inside-long, lies-inside, Coms-parts, Procs-parts, Proc-parts, procs-none}

@@ -1,9 +1,8 @@
 -- Entries of the code beside sights of the definition.
-use mathlib.Core.Path.{_≡_, refl, sym, ap, ap₂, subst, _∙_}
+use mathlib.Core.Path.{_≡_, refl, sym, ap, _∙_}
 use mathlib.Core.Bool.{Bool, true, false, _||_, cond}
 use mathlib.Core.List.{List, [], _∷_}
 use Prim.Native.Nat.{ℕ, suc, _+_, _≤_}
-use native.Mathlib.Omega.{arith}
 use lib.ListN.{length, take, drop}
 use Rattle.std.specs.declared.option.Option.{Option}
 use Rattle.std.specs.declared.option.Option.the-variants.{Some, None}
@@ -16,7 +15,7 @@ use Rattle.language.specs.Tree.{Decl, Com, Procs, pnil, pcons}
 use Rattle.language.specs.Names as N
 use Rattle.language.specs.Names.{variables, proc-names, types}
 use Rattle.rule.specs.declared.entries.Entry.{Entry}
-use Rattle.rule.specs.declared.entries.Entry.the-variants.{Variable, Procedure, Hidden}
+use Rattle.rule.specs.declared.entries.Entry.the-variants.{Procedure, Hidden}
 use Rattle.rule.specs.declared.entries.Routine.{Routine}
 use Rattle.rule.specs.Seen.{Names, types-in, seen, Stands, Looks}
 use Rattle.rule.specs.Rows.{decls-from, entered}

@@ -1,16 +1,16 @@
 -- Rows of procedures and of commands, seen from their end.
-use mathlib.Core.Path.{_≡_, refl, sym, ap, subst, _∙_}
-use mathlib.Core.List.{List, [], _∷_}
+use mathlib.Core.Path.{_≡_, refl, ap, subst}
+use mathlib.Core.List.{List}
 use Prim.Native.Nat.{ℕ, zero, suc, _+_, _-_, _<_, _≤_}
 use native.Mathlib.Omega.{arith}
-use lib.ListN.{length, getD}
+use lib.ListN.{length}
 use denote.Ref.{now}
 use Rattle.language.specs.declared.tables.Node.{Node}
 use Rattle.language.specs.Tree.{Decl, Com, Procs, Coms, null, assign, if, while, call, block, pnil, pcons, cnil, ccons}
 use Rattle.language.specs.Spelling.{how-many-procs, how-many-coms, size, size-procs, size-coms}
 use Rattle.table.specs.Stretches.{ComAt, ProcAt, ProcsAt, ComsAt}
 use Rattle.rule.specs.declared.parts.Part.{Part}
-use Rattle.rule.specs.Pieces.{long, last-node, Fine, Ended, begins, Row-ends, skipped}
+use Rattle.rule.specs.Pieces.{long, Fine, Ended, begins, Row-ends, skipped}
 use Rattle.rule.proofs.Cuts.{com-some}
 use Rattle.rule.proofs.ExprShapes.{ended-at}
 

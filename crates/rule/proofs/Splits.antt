@@ -1,5 +1,5 @@
 -- Parts that are rows or procedures, taken apart.
-use mathlib.Core.Path.{_≡_, refl, sym, ap, ap₂, subst, _∙_}
+use mathlib.Core.Path.{_≡_, sym, ap, ap₂, subst, _∙_}
 use mathlib.Core.Bool.{Bool, true, false, _||_}
 use mathlib.Core.List.{List, [], _∷_}
 use Prim.Native.Nat.{ℕ, _+_, _-_, _*_, _<_, _≤_}
@@ -9,12 +9,10 @@ use lib.ListN.{length, take, drop}
 use denote.Ref.{now}
 use Rattle.std.proofs.shelf.Lists.{drop-take, take-take, drop-drop}
 use Rattle.std.proofs.shelf.Tests.{eqb-true, eqb-false}
-use Rattle.std.specs.declared.result.Result.{Result}
-use Rattle.std.specs.declared.result.Result.the-variants.{Ok, Err}
+use Rattle.std.specs.declared.result.Result.the-variants.{Ok}
 use Rattle.language.specs.declared.tables.Node.{Node}
-use Rattle.language.specs.declared.faults.Fault.{Fault}
 use Rattle.language.specs.Same.{same}
-use Rattle.language.specs.Tree.{Decl, Com, Procs, Coms, pnil, pcons, cnil}
+use Rattle.language.specs.Tree.{Decl, Com, Procs, Coms, pnil, pcons}
 use Rattle.language.specs.Results.{_>>=_}
 use Rattle.language.specs.Sight.{member}
 use Rattle.language.specs.Spelling.{how-many-procs, size, size-procs, size-coms}
@@ -22,15 +20,15 @@ use Rattle.language.specs.Names.{types, proc-names, check-com, check-coms, chec
 use Rattle.table.specs.Stretches.{node-at, ComAt, ProcAt}
 use Rattle.rule.specs.declared.entries.Entry.the-variants.{Hidden}
 use Rattle.rule.specs.declared.parts.Part.{Part}
-use Rattle.rule.specs.Pieces.{long, last-node, placed, Fine, Cut, begins, Ended, Lasts, Proc-ends, Proc-cuts, Inside, Lies, Is-com, Is-coms, Is-proc, Is-procs}
+use Rattle.rule.specs.Pieces.{long, last-node, placed, Fine, begins, Ended, Lasts, Proc-ends, Proc-cuts, Inside, Lies, Is-com, Is-coms, Is-proc, Is-procs}
 use Rattle.rule.specs.Rows.{decls-from}
 use Rattle.rule.specs.Seen.{Names, types-in}
 use Rattle.rule.specs.Said.{Entries, hidden, seen-after}
 use Rattle.rule.proofs.Cuts.{com-some, is-com, is-coms, is-procs, is-proc, cut-long, cut-fine}
 use Rattle.rule.proofs.ExprShapes.{ends-last, ends-place}
 use Rattle.rule.proofs.ComShapes.{is-decls, inside}
-use Rattle.rule.proofs.Snocs.{psnoc, csnoc, back-coms, back-procs, com-ended, proc-ended, no-procs, no-coms, some-procs, some-coms}
-use Rattle.rule.proofs.Sights.{types-of, decls-long, seen-snoc, hidden-snoc}
+use Rattle.rule.proofs.Snocs.{back-coms, back-procs, com-ended, proc-ended, no-procs, no-coms, some-procs, some-coms}
+use Rattle.rule.proofs.Sights.{types-of, seen-snoc, hidden-snoc}
 use Rattle.rule.proofs.Laws.{largest, coms-snoc, one-proc, procs-snoc}
 
 -- a test for no nodes

@@ -1,14 +1,13 @@
 -- The table as a whole.
-use mathlib.Core.Path.{_≡_, refl, sym, ap, ap₂, subst, _∙_}
-use mathlib.Core.Bool.{Bool, true, false, _&&_}
+use mathlib.Core.Path.{_≡_, refl, sym, ap, subst, _∙_}
+use mathlib.Core.Bool.{Bool, true, false}
 use mathlib.Core.List.{List, [], _∷_}
-use Prim.Native.Nat.{ℕ, _+_, _-_, _<_, _≤_}
+use Prim.Native.Nat.{ℕ, _+_, _-_, _≤_}
 use native.Mathlib.Omega.{arith}
-use lib.Dec.{eqb, leb}
 use lib.ListN.{length, getD, take, drop}
 use denote.Ref.{now}
 use Rattle.std.proofs.shelf.Lists.{getD-take, length-take-le, take-all}
-use Rattle.std.proofs.shelf.Tests.{eqb-true, eq-eqb, and-parts, and-from}
+use Rattle.std.proofs.shelf.Tests.{eqb-true, and-parts}
 use Rattle.std.specs.declared.result.Result.{Result}
 use Rattle.std.specs.declared.result.Result.the-variants.{Ok, Err}
 use Rattle.language.specs.declared.tables.Node.{Node}
@@ -16,9 +15,8 @@ use Rattle.language.specs.declared.values.Scalar.the-variants.{Whole as wholes}
 use Rattle.language.specs.declared.faults.Fault.{Fault}
 use Rattle.language.specs.Tree.{Com}
 use Rattle.language.specs.Results.{_>>=_, asked}
-use Rattle.language.specs.Spelling.{size}
 use Rattle.language.specs.Table.{build}
-use Rattle.language.specs.Names.{variable, outset, check-com, check-rule}
+use Rattle.language.specs.Names.{variable, outset, check-rule}
 use Rattle.language.specs.Check.{right-size, long-enough, read-rule, check}
 use Rattle.scope.specs.declared.Scope.{Scope}
 use Rattle.table.specs.Stretches.{node-at, ComAt}
@@ -27,7 +25,7 @@ use Rattle.rule.specs.declared.entries.Entry.{Entry}
 use Rattle.rule.specs.declared.entries.Entry.the-variants.{Variable}
 use Rattle.rule.specs.declared.parts.Part.{Part}
 use Rattle.rule.specs.Pieces.{long, Lies, Is-com}
-use Rattle.rule.specs.Seen.{Names, Looks, sight, room, Grown}
+use Rattle.rule.specs.Seen.{Looks, sight, room, Grown}
 use Rattle.rule.specs.Said.{Entries, Some-com, Com-says}
 use Rattle.rule.specs.Accepted.{has-need, accepted, Accepted, need-of, verdict}
 use Rattle.rule.proofs.Bounds.{com-bound}

@@ -11,8 +11,7 @@ use Rattle.language.specs.declared.faults.Fault.{Fault}
 use Rattle.language.specs.Tree.{Decl, Com, Procs, Coms, block, pnil, pcons}
 use Rattle.language.specs.Results.{_>>=_}
 use Rattle.language.specs.Spelling.{how-many-procs}
-use Rattle.language.specs.Sight.{member}
-use Rattle.language.specs.Names.{types, variables, proc-names, check-decls, check-com, check-coms, check-procs}
+use Rattle.language.specs.Names.{types, variables, check-decls, check-com, check-coms, check-procs}
 use Rattle.scope.specs.Sight.{in-sight}
 use Rattle.scope.specs.declared.Scope.{Scope}
 use Rattle.rule.specs.declared.entries.Entry.{Entry}

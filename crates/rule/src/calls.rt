@@ -57,7 +57,7 @@ fn fit(formals: &[Node], types: &[Scalar]) -> bool
 }
 
 // The need of the procedure that is called.
-pub fn call(
+pub(crate) fn call(
     table: &[Node],
     name: Name,
     args: Part<'_>,

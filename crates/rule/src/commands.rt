@@ -83,7 +83,7 @@ fn assign(
 }
 
 // The locations that the command needs.
-pub fn command(
+pub(crate) fn command(
     table: &[Node],
     part: Part<'_>,
     scope: &mut Scope<'_, Entry>,

@@ -22,7 +22,7 @@ use language::same_name;
 use scope::Scope;
 
 // The type that a declaration gives.
-pub fn type_of(node: Node) -> Scalar
+pub(crate) fn type_of(node: Node) -> Scalar
     ensures given { λ r. ⌜ r ≡ typeOf (node .value) ⌝ }
 {
     if node.value == 0 {
@@ -48,7 +48,7 @@ fn declared(nodes: &[Node], count: usize, name: Name) -> bool
 }
 
 // Each declaration's name differs from the earlier ones.
-pub fn check_names(part: Part<'_>) -> Result<(), Fault>
+pub(crate) fn check_names(part: Part<'_>) -> Result<(), Fault>
     requires fine { ⌜ Fine part ⌝ }
     ensures says { λ r. ⌜ r ≡ check-decls [] (decls-from (part .entry .first) (now (part .entry .nodes))) ⌝ }
 {
@@ -61,7 +61,7 @@ pub fn check_names(part: Part<'_>) -> Result<(), Fault>
 }
 
 // Brings the declared variables into sight.
-pub fn enter_all(nodes: &[Node], scope: &mut Scope<'_, Entry>)
+pub(crate) fn enter_all(nodes: &[Node], scope: &mut Scope<'_, Entry>)
     requires room { ⌜ now scope .top + length (now nodes) ≤ room (now scope) ⌝ }
     ensures sight { λ _. ⌜ sight (now (scope .exit)) ≡ entered (now (nodes .entry)) (sight (now (scope .entry))) ⌝ }
     ensures grown { λ _. ⌜ Grown (now (scope .entry)) (now (scope .exit)) (length (now (nodes .entry))) ⌝ }

@@ -30,14 +30,14 @@ pub enum Entry {
     Hidden,
 }
 
-pub fn refuse(cause: NamesCause, place: usize) -> Fault
+pub(crate) fn refuse(cause: NamesCause, place: usize) -> Fault
     ensures fault { λ r. ⌜ r ≡ refusal cause place ⌝ }
 {
     Fault::new(Layer::Names(cause), place)
 }
 
 // The type of the variable of this name.
-pub fn variable(scope: &Scope<'_, Entry>, name: Name, place: usize) -> Result<Scalar, Fault>
+pub(crate) fn variable(scope: &Scope<'_, Entry>, name: Name, place: usize) -> Result<Scalar, Fault>
     ensures says { λ r. ⌜ ((table : List Node) (ρ : Sights) → Looks table (sight (now (scope .entry))) ρ → r ≡ as-variable place (look name ρ)) ⌝ }
 {
     match scope.find(name) {
@@ -47,7 +47,11 @@ pub fn variable(scope: &Scope<'_, Entry>, name: Name, place: usize) -> Result<Sc
 }
 
 // The procedure of this name.
-pub fn procedure(scope: &Scope<'_, Entry>, name: Name, place: usize) -> Result<Routine, Fault>
+pub(crate) fn procedure(
+    scope: &Scope<'_, Entry>,
+    name: Name,
+    place: usize,
+) -> Result<Routine, Fault>
     ensures says { λ r. ⌜ ((table : List Node) (ρ : Sights) → Looks table (sight (now (scope .entry))) ρ → Routine-said table r (as-procedure place (look name ρ))) ⌝ }
 {
     match scope.find(name) {
@@ -57,7 +61,7 @@ pub fn procedure(scope: &Scope<'_, Entry>, name: Name, place: usize) -> Result<R
 }
 
 // Puts a name in sight, where there is room.
-pub fn enter(scope: &mut Scope<'_, Entry>, name: Name, entry: Entry)
+pub(crate) fn enter(scope: &mut Scope<'_, Entry>, name: Name, entry: Entry)
     requires room { ⌜ now scope .top < room (now scope) ⌝ }
     ensures sight { λ _. ⌜ sight (now (scope .exit)) ≡ (name, entry) ∷ sight (now (scope .entry)) ⌝ }
     ensures grown { λ _. ⌜ Grown (now (scope .entry)) (now (scope .exit)) 1 ⌝ }
@@ -69,7 +73,7 @@ pub fn enter(scope: &mut Scope<'_, Entry>, name: Name, entry: Entry)
 }
 
 // Sees from a position that is there.
-pub fn see_from(scope: &mut Scope<'_, Entry>, position: usize)
+pub(crate) fn see_from(scope: &mut Scope<'_, Entry>, position: usize)
     requires there { ⌜ position ≤ now scope .top ⌝ }
     ensures turned { λ _. ⌜ Turned (now (scope .entry)) (now (scope .exit)) position ⌝ }
 {
@@ -80,7 +84,7 @@ pub fn see_from(scope: &mut Scope<'_, Entry>, position: usize)
 }
 
 // Goes back to a mark that is there.
-pub fn back_to(scope: &mut Scope<'_, Entry>, mark: Mark)
+pub(crate) fn back_to(scope: &mut Scope<'_, Entry>, mark: Mark)
     requires there { ⌜ mark .top ≤ now scope .top ⌝ }
     ensures returned { λ _. ⌜ Returned (now (scope .entry)) (now (scope .exit)) (mark .top) (mark .head) ⌝ }
 {

@@ -32,7 +32,7 @@ pub enum ExprView<'a> {
 }
 
 // Both types are the same.
-pub fn agree(t: Scalar, u: Scalar, place: usize) -> Result<(), Fault>
+pub(crate) fn agree(t: Scalar, u: Scalar, place: usize) -> Result<(), Fault>
     ensures asked { λ r. ⌜ r ≡ asked (alike t u) (refusal Types place) ⌝ }
 {
     match (t, u) {
@@ -72,7 +72,7 @@ fn view<'a>(part: Part<'a>) -> ExprView<'a>
 }
 
 // The type of the expression that the part is.
-pub fn expression(part: Part<'_>, scope: &Scope<'_, Entry>) -> Result<Scalar, Fault>
+pub(crate) fn expression(part: Part<'_>, scope: &Scope<'_, Entry>) -> Result<Scalar, Fault>
     requires some { ⌜ Some-expr part ⌝ }
     ensures says { λ r. ⌜ ((x : Expr) (table : List Node) (ρ : Sights) → Is-expr (part .entry) x → Looks table (sight (now (scope .entry))) ρ → r ≡ check-expr ρ x) ⌝ }
 {

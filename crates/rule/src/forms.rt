@@ -18,7 +18,7 @@ pub enum ComView<'a> {
     Block(Part<'a>, Part<'a>, Part<'a>),
 }
 
-pub fn view<'a>(part: Part<'a>) -> ComView<'a>
+pub(crate) fn view<'a>(part: Part<'a>) -> ComView<'a>
     requires some { ⌜ ((c : Com) × Is-com part c) ⌝ }
     ensures shows { λ r. ⌜ ((c : Com) → Is-com (part .entry) c → Shows-com r (part .entry) c) ⌝ }
 {

@@ -19,7 +19,7 @@ pub struct Part<'a> {
 
 impl<'a> Part<'a> {
     // The nodes from `start` to `end`.
-    pub fn cut(self, start: usize, end: usize) -> Part<'a>
+    pub(crate) fn cut(self, start: usize, end: usize) -> Part<'a>
         requires order { ⌜ start ≤ end ⌝ }
         requires within { ⌜ end ≤ long self ⌝ }
         requires fine { ⌜ Fine self ⌝ }
@@ -33,7 +33,7 @@ impl<'a> Part<'a> {
     }
 
     // The node that ends the part.
-    pub fn last(self) -> Node
+    pub(crate) fn last(self) -> Node
         requires some { ⌜ 1 ≤ long self ⌝ }
         ensures node { λ r. ⌜ r ≡ last-node (self .entry) ⌝ }
     {
@@ -41,7 +41,7 @@ impl<'a> Part<'a> {
     }
 
     // The number of that node.
-    pub fn place(self) -> usize
+    pub(crate) fn place(self) -> usize
         requires some { ⌜ 1 ≤ long self ⌝ }
         requires fine { ⌜ Fine self ⌝ }
         ensures number { λ r. ⌜ r ≡ placed (self .entry) ⌝ }
@@ -50,7 +50,7 @@ impl<'a> Part<'a> {
     }
 
     // The kind of that node.
-    pub fn kind(self) -> Kind
+    pub(crate) fn kind(self) -> Kind
         requires some { ⌜ 1 ≤ long self ⌝ }
         requires known { ⌜ isSome (withNumber (last-node self .kind)) ≡ true ⌝ }
         ensures kind { λ r. ⌜ withNumber (last-node (self .entry) .kind) ≡ Some r ⌝ }
@@ -59,7 +59,7 @@ impl<'a> Part<'a> {
     }
 
     // Where the piece that ends right before `end` begins.
-    pub fn start_of(self, end: usize) -> usize
+    pub(crate) fn start_of(self, end: usize) -> usize
         requires ended { ⌜ Ended self end ⌝ }
         ensures begins { λ r. ⌜ r ≡ begins (self .entry) end ⌝ }
     {
@@ -67,7 +67,7 @@ impl<'a> Part<'a> {
     }
 
     // The two pieces in front of the last node.
-    pub fn halves(self) -> (Part<'a>, Part<'a>)
+    pub(crate) fn halves(self) -> (Part<'a>, Part<'a>)
         requires halved { ⌜ Halved self ⌝ }
         ensures halves { λ r. ⌜ Halves (self .entry) (r .0) (r .1) ⌝ }
     {
@@ -77,7 +77,7 @@ impl<'a> Part<'a> {
     }
 
     // The three pieces in front of the last node.
-    pub fn thirds(self) -> (Part<'a>, Part<'a>, Part<'a>)
+    pub(crate) fn thirds(self) -> (Part<'a>, Part<'a>, Part<'a>)
         requires thirded { ⌜ Thirded self ⌝ }
         ensures thirds { λ r. ⌜ Thirds (self .entry) (r .0) (r .1) (r .2) ⌝ }
     {
@@ -92,7 +92,7 @@ impl<'a> Part<'a> {
     }
 
     // All but the last node.
-    pub fn body(self) -> Part<'a>
+    pub(crate) fn body(self) -> Part<'a>
         requires some { ⌜ 1 ≤ long self ⌝ }
         requires fine { ⌜ Fine self ⌝ }
         ensures cut { λ r. ⌜ Cut (self .entry) r 0 (long (self .entry) - 1) ⌝ }
@@ -101,7 +101,7 @@ impl<'a> Part<'a> {
     }
 
     // The piece that ends the part, after what stands before it.
-    pub fn split_last(self) -> (Part<'a>, Part<'a>)
+    pub(crate) fn split_last(self) -> (Part<'a>, Part<'a>)
         requires ended { ⌜ Ended self (long self) ⌝ }
         ensures lasts { λ r. ⌜ Lasts (self .entry) (r .0) (r .1) ⌝ }
     {
@@ -125,7 +125,7 @@ impl<'a> Part<'a> {
     }
 
     // The variables, the procedures and the commands of a block.
-    pub fn block_parts(self) -> (Part<'a>, Part<'a>, Part<'a>)
+    pub(crate) fn block_parts(self) -> (Part<'a>, Part<'a>, Part<'a>)
         requires blocked { ⌜ Blocked self ⌝ }
         ensures cuts { λ r. ⌜ Block-cuts (self .entry) (r .0) (r .1) (r .2) ⌝ }
     {
@@ -141,7 +141,7 @@ impl<'a> Part<'a> {
     }
 
     // The formals and the body of a procedure.
-    pub fn procedure_parts(self) -> (Part<'a>, Part<'a>)
+    pub(crate) fn procedure_parts(self) -> (Part<'a>, Part<'a>)
         requires ends { ⌜ Proc-ends self ⌝ }
         ensures cuts { λ r. ⌜ Proc-cuts (self .entry) (r .0) (r .1) ⌝ }
     {

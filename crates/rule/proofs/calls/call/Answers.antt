@@ -1,5 +1,5 @@
 use borrow.Author.Needs.{needs}
-use mathlib.Core.Path.{_≡_, refl, sym}
+use mathlib.Core.Path.{refl}
 use denote.Ref.{now}
 use Rattle.rule.specs.Pieces.{long}
 use Rattle.rule.proofs.Called.{called-count, called-types, called-well}

@@ -1,4 +1,3 @@
-use borrow.Author.Needs.{needs}
 use Rattle.rule.proofs.ExprShapes.{expr-long}
 use Rattle.rule.proofs.expressions.+expression.Needs as need
 

@@ -1,4 +1,3 @@
-use borrow.Author.Needs.{needs}
 use Rattle.language.specs.declared.tables.Kind.the-variants.{Truth, Whole, Read, Plus, Less}
 use Rattle.rule.proofs.ExprShapes.{shape-of, shape-rest, expr-known, expr-long, operates, read-shows}
 use Rattle.rule.proofs.expressions.view.Needs as need
