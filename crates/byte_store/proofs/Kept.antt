@@ -1,7 +1,7 @@
 -- What the store keeps true of its count and its window, after each call. Assumes nothing.
 use Rattle.std.proofs.Common.{◌≡◌, ℕ, ◌+◌, ◌-◌, ◌<◌, ◌≤◌, min, max, true, List, is_some, Some, None, Option, ap, ◌∙◌, subst, inl, inr, ⊎_elim, arith}
 use Rattle.std.proofs.lemmas.Bool.{cases_eq}
-use Rattle.std.proofs.lemmas.Map.{update_here, update_apart}
+use Rattle.language.specs.Counting.{put_here, put_apart}
 use Rattle.language.specs.declared.values.Value.{Value}
 use Rattle.language.specs.Memory.{Memory, put, one, live}
 use Rattle.language.specs.Counting.{below_all, below_gap, live_put, one_some}
@@ -26,8 +26,8 @@ next_within n f start l (inr h) = (h.1.1, h.1.2)
 
 held_put : (f : Memory) (l : ℕ) (v : Value) (a b : ℕ) → AllHeld f a b → AllHeld (put f l (Some v)) a b
 held_put f l v a b h q in' =
-    ⊎_elim (λ (e : q ≡ l). rw e (ap is_some (update_here f l (Some v))))
-    (λ (d : q ≡ l → ⊥). ap is_some (update_apart f l (Some v) q d) ∙ h q in')
+    ⊎_elim (λ (e : q ≡ l). rw e (ap is_some (put_here f l (Some v))))
+    (λ (d : q ≡ l → ⊥). ap is_some (put_apart f l (Some v) q d) ∙ h q in')
     (cases_eq q l)
 
 within_put : (n : ℕ) (f : Memory) (l : ℕ) (v : Value) (a b : ℕ) → FreeWithin n f a b → FreeWithin n (put f l (Some v)) a b
@@ -36,8 +36,8 @@ within_put n f l v a b h = (h.0, held_put f l v 0 a h.1, held_put f l v b n h.2)
 within_freed : (n : ℕ) (f : Memory) (l a b : ℕ) → l < n → FreeWithin n f a b → FreeWithin n (put f l None) (min a l) (max b (l + 1))
 within_freed n f l a b lt h = (
   omega (arith, h.0),
-  λ q in'. ap is_some (update_apart f l None q (λ e. omega (arith, in'.1))) ∙ h.1 q (in'.0, omega (arith, in'.1)),
-  λ q in'. ap is_some (update_apart f l None q (λ e. omega (arith, in'.0))) ∙ h.2 q (omega (arith, in'.0), in'.1),
+  λ q in'. ap is_some (put_apart f l None q (λ e. omega (arith, in'.1))) ∙ h.1 q (in'.0, omega (arith, in'.1)),
+  λ q in'. ap is_some (put_apart f l None q (λ e. omega (arith, in'.0))) ∙ h.2 q (omega (arith, in'.0), in'.1),
 )
 
 -- what the search answers says of the count

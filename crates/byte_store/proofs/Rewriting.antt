@@ -5,7 +5,7 @@ use borrow.Rule.Slice.PartMut.{put_mid}
 use Rattle.std.proofs.lemmas.List.{length-append, length-take, length-take-le, length-drop, length-replicate, take-append-le, take-take, take_at, drop_at, drop-drop, drop-take, drop-append-le, take-replicate, drop-replicate}
 use Rattle.std.proofs.lemmas.Slice.{drop-put_mid}
 use Rattle.std.proofs.lemmas.Bool.{cases_eq, cases_lt, lt-ltb, cond-true}
-use Rattle.std.proofs.lemmas.Map.{update_here, update_apart}
+use Rattle.language.specs.Counting.{put_here, put_apart}
 use Rattle.language.specs.declared.values.Value.{Value}
 use Rattle.language.specs.declared.values.Value.TheVariants.{Truth, Whole}
 use Rattle.language.specs.Memory.{put}
@@ -78,8 +78,8 @@ module _ (xs : List ℕ) (l : ℕ) (w : Option Value) (lt : l < cells xs) where
 
     pub meaning_with_cell : meaning (with_cell xs l w) ≡ put (meaning xs) l w
     meaning_with_cell = fun_ext (λ q.
-        ⊎_elim (λ (e : q ≡ l). rw e (here ∙ sym (update_here (meaning xs) l w)))
-        (λ (d : q ≡ l → ⊥). apart q d ∙ sym (update_apart (meaning xs) l w q d))
+        ⊎_elim (λ (e : q ≡ l). rw e (here ∙ sym (put_here (meaning xs) l w)))
+        (λ (d : q ≡ l → ⊥). apart q d ∙ sym (put_apart (meaning xs) l w q d))
         (cases_eq q l))
 
     pub formed_with_cell : WellFormed xs → WellFormed (with_cell xs l w)

@@ -1,5 +1,5 @@
 -- The names in sight of the reference, read as meanings; and what an expression gives, in both.
-use Rattle.std.proofs.Common.{◌≡◌, ℕ, ◌+◌, Bool, true, false, cond, ◌||◌, [], ◌∷◌, ◌++◌, length, ℤ, ◌+ℤ◌, Ok, Err, Result, sym, refl, ap, ◌∙◌, subst, append-nil}
+use Rattle.std.proofs.Common.{◌≡◌, ℕ, Bool, true, false, cond, ◌||◌, [], ◌∷◌, ◌++◌, length, ℤ, ◌+ℤ◌, Ok, Err, Result, sym, refl, ap, ◌∙◌, subst, append-nil}
 use mathlib.Core.Path.{subst⁻¹}
 use mathlib.Core.Option.{Option as FoundBy, some, none}
 use lib.Signed.{lt_z}

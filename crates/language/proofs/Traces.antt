@@ -1,5 +1,5 @@
 -- What a trace costs.
-use Rattle.std.proofs.Common.{◌≡◌, ℕ, zero, suc, ◌+◌, ◌-◌, ◌<◌, Bool, true, false, cond, [], ◌∷◌, ◌++◌, get_or, Ok, Err, refl, ap, arith}
+use Rattle.std.proofs.Common.{◌≡◌, ℕ, zero, suc, ◌+◌, ◌<◌, Bool, true, false, cond, [], ◌∷◌, ◌++◌, get_or, Ok, Err, refl, ap, arith}
 use Rattle.language.specs.declared.values.Stop.TheVariants.{Sum, Unit as UnitStop}
 use Rattle.language.specs.Values.{fits}
 use Rattle.language.specs.Results.{◌>>=◌}

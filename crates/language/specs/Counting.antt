@@ -1,10 +1,15 @@
 -- How many locations are live, after a change and at a bound. Assumes nothing.
-use Rattle.std.specs.Prelude.{◌≡◌, ℕ, zero, suc, ◌+◌, ◌<◌, ◌≤◌, true, false, ◌⊎◌, is_some, Some, None, Option, refl}
+use Rattle.std.specs.Prelude.{◌≡◌, ℕ, zero, suc, ◌+◌, ◌<◌, ◌≤◌, true, is_some, Some, None, Option, refl}
 use Rattle.std.proofs.Common.{sym, ap, ◌∙◌, ⊎_elim, arith}
-use Rattle.std.proofs.lemmas.Bool.{cases_eq, false≢true}
-use Rattle.std.proofs.lemmas.Map.{update_here, update_apart}
+use Rattle.std.proofs.lemmas.Bool.{cases_eq, false≢true, eq-eqb, ne_eqb}
 use Rattle.language.specs.declared.values.Value.{Value}
 use Rattle.language.specs.Memory.{Memory, put, one, live_below, live}
+
+pub put_here : (f : Memory) (l : ℕ) (w : Option Value) → put f l w l ≡ w
+put_here f l w = rw (eq-eqb l l refl) refl
+
+pub put_apart : (f : Memory) (l : ℕ) (w : Option Value) (q : ℕ) → (q ≡ l → ⊥) → put f l w q ≡ f q
+put_apart f l w q d = rw (ne_eqb q l d) refl
 
 pub one_le : (o : Option Value) → one o ≤ 1
 one_le None = omega arith
@@ -43,7 +48,7 @@ below_all f zero h = refl
 below_all f (suc n) h = omega (arith, below_all f n (λ q l. h q (omega arith)), one_some (f n) (h n (omega arith)))
 
 pub below_put_past : (f : Memory) (l : ℕ) (w : Option Value) (n : ℕ) → n ≤ l → live_below (put f l w) n ≡ live_below f n
-below_put_past f l w n le = below_same (put f l w) f n (λ q lt. update_apart f l w q (omega arith))
+below_put_past f l w n le = below_same (put f l w) f n (λ q lt. put_apart f l w q (omega arith))
 
 -- one location changes
 pub below_put : (f : Memory) (l : ℕ) (w : Option Value) (n : ℕ) → l < n → live_below (put f l w) n + one (f l) ≡ live_below f n + one w
@@ -52,12 +57,12 @@ below_put f l w zero lt = omega arith
 below_put f l w (suc n) lt =
     ⊎_elim (λ (e : l ≡ n).
     let p = below_put_past f l w n (omega arith) in
-    let h : put f l w n ≡ w = rw (← e) (update_here f l w) in
+    let h : put f l w n ≡ w = rw (← e) (put_here f l w) in
     let i : f l ≡ f n = ap f e in
     omega (arith, p, ap one h, ap one i))
     (λ (d : l ≡ n → ⊥).
     let r = below_put f l w n (omega (arith, d)) in
-    let h = update_apart f l w n (λ e. d (sym e)) in
+    let h = put_apart f l w n (λ e. d (sym e)) in
     omega (arith, r, ap one h))
     (cases_eq l n)
 

@@ -1,4 +1,6 @@
 // The types that every layer shares, what a rule is and means, and the laws between these definitions.
+#![tactic(auto)]
+
 mod faults;
 mod laws;
 mod tables;

@@ -1,48 +1,99 @@
-// Checks each sample rule and runs it on a record store of 64 cells: prints the shift and the units, or the refusal.
-use language::{Fault, Graded, Scalar};
+// Checks every sample rule; then holds one size's shifts of a small piece on each store, and shows what a store refuses.
+use anyhow::anyhow;
+use byte_store::ByteStore;
+use language::{Number, Scalar, Value};
 use record_store::{Cell, RecordStore};
 use rule::{Entry, Rule, check};
-use run::{Binding, Level, run};
 use samples::{Sample, sample_lines};
 use scope::Record;
+use store::{Dead, Full, Store, WriteRefusal};
 
 #[cfg(test)]
 mod tests;
 
-const CELLS: usize = 64;
-
 // Records in each work list: enough for every sample.
 const WORK: usize = 64;
 
-// Fills the place with the sample's rule, if it is accepted.
-fn accept<'a>(place: &mut Rule<'a>, sample: Sample) -> Result<(), Fault> {
+const POINTS: usize = 4;
+
+// The shifts of the piece's points, in hundredths of a millimetre.
+const SHIFTS: [Number; POINTS] = [150, -75, 0, 1200];
+
+fn show_count<S: Store>(rt: &HostRuntime, store: &S) -> anyhow::Result<()> {
+    println!(rt; "limit {} live {}", store.limit(), store.count())?;
+    Ok(())
+}
+
+// A location for each point, holding 0.
+fn take_points<S: Store>(store: &mut S) -> Result<[u16; POINTS], Full> {
+    let mut locations = [0; POINTS];
+    for i in 0..POINTS {
+        locations[i] = store.take(Value::Whole(0))?;
+    }
+    Ok(locations)
+}
+
+fn show_read(rt: &HostRuntime, location: u16, answer: Result<Value, Dead>) -> anyhow::Result<()> {
+    match answer {
+        Ok(Value::Whole(shift)) => println!(rt; "location {location} holds {shift}")?,
+        Ok(Value::Truth(truth)) => println!(rt; "location {location} holds {truth}")?,
+        Err(Dead) => println!(rt; "location {location}: dead")?,
+    }
+    Ok(())
+}
+
+fn show_write(
+    rt: &HostRuntime,
+    location: u16,
+    answer: Result<(), WriteRefusal>,
+) -> anyhow::Result<()> {
+    match answer {
+        Ok(()) => println!(rt; "location {location} written")?,
+        Err(WriteRefusal::Dead) => println!(rt; "location {location}: dead")?,
+        Err(WriteRefusal::Kind) => println!(rt; "location {location}: kind")?,
+    }
+    Ok(())
+}
+
+// The whole task on one store: take, write, read back, two refusals, release.
+fn hold_shifts<S: Store>(rt: &HostRuntime, store: &mut S) -> anyhow::Result<()> {
+    show_count(rt, store)?;
+    let locations = match take_points(store) {
+        Ok(locations) => locations,
+        Err(Full) => return Err(anyhow!("the store is full")),
+    };
+    for i in 0..POINTS {
+        show_write(
+            rt,
+            locations[i],
+            store.write(locations[i], Value::Whole(SHIFTS[i])),
+        )?;
+    }
+    for location in locations {
+        show_read(rt, location, store.read(location))?;
+    }
+    show_write(
+        rt,
+        locations[0],
+        store.write(locations[0], Value::Truth(true)),
+    )?;
+    show_count(rt, store)?;
+    for location in locations {
+        let _ = store.release(location);
+    }
+    show_read(rt, locations[0], store.read(locations[0]))?;
+    show_count(rt, store)
+}
+
+// The need of a sample rule, or the number and the place of its refusal.
+fn check_sample(rt: &HostRuntime, sample: Sample) -> anyhow::Result<()> {
     let mut lens = [0; WORK];
     let mut names = [Record::blank(Entry::Hidden); WORK];
     let mut types = [Scalar::Whole; WORK];
-    check(place, sample.nodes, &mut lens, &mut names, &mut types)
-}
-
-fn answer(sample: Sample) -> Result<Graded, Fault> {
     let mut rule = Rule::built_in();
-    accept(&mut rule, sample)?;
-    let mut lens = [0; WORK];
-    let mut names = [Record::blank(Binding::Place(0)); WORK];
-    let mut levels = [Level::blank(); WORK];
-    let mut cells = [Cell::free(); CELLS];
-    run(
-        &rule,
-        sample.step,
-        sample.allowance,
-        &mut RecordStore::over(&mut cells),
-        &mut lens,
-        &mut names,
-        &mut levels,
-    )
-}
-
-fn show(rt: &HostRuntime, name: &str, answer: Result<Graded, Fault>) -> anyhow::Result<()> {
-    match answer {
-        Ok(graded) => println!(rt; "{name} ok {} {}", graded.shift, graded.units)?,
+    let name = sample.name;
+    match check(&mut rule, sample.nodes, &mut lens, &mut names, &mut types) {
+        Ok(()) => println!(rt; "{name} accepted {}", rule.need())?,
         Err(fault) => println!(rt; "{name} no {} {}", fault.layer.number(), fault.place)?,
     }
     Ok(())
@@ -50,7 +101,17 @@ fn show(rt: &HostRuntime, name: &str, answer: Result<Graded, Fault>) -> anyhow::
 
 fn main(rt: HostRuntime) -> anyhow::Result<()> {
     for sample in sample_lines() {
-        show(&rt, sample.name, answer(sample))?;
+        check_sample(&rt, sample)?;
     }
+    println!(rt; "record store")?;
+    let mut cells = [Cell::free(); 64];
+    hold_shifts(&rt, &mut RecordStore::over(&mut cells))?;
+    println!(rt; "byte store")?;
+    let mut bytes = [9; 33];
+    hold_shifts(&rt, &mut ByteStore::over(&mut bytes))?;
+    println!(rt;
+        "the last three bytes, in no cell: {} {} {}",
+        bytes[30], bytes[31], bytes[32]
+    )?;
     Ok(())
 }

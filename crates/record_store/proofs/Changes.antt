@@ -3,7 +3,7 @@ use Rattle.std.proofs.Common.{◌≡◌, ℕ, ◌+◌, ◌-◌, ◌<◌, ◌≤�
 use mathlib.Core.Path.{fun_ext}
 use Rattle.std.proofs.lemmas.List.{length-set, get_or-set_same, get_or-set_other}
 use Rattle.std.proofs.lemmas.Bool.{cases_eq, false≢true}
-use Rattle.std.proofs.lemmas.Map.{update_here, update_apart}
+use Rattle.language.specs.Counting.{put_here, put_apart}
 use Rattle.language.specs.declared.values.Value.{Value}
 use Rattle.language.specs.declared.values.Value.TheVariants.{Truth as truth_value, Whole as whole_value}
 use Rattle.language.specs.Values.{sort, alike}
@@ -35,9 +35,9 @@ unfolding meant
 meant_set cells l w lt = fun_ext (λ q.
     ⊎_elim (λ (e : q ≡ l).
     let here : meant (set cells l (cell_of w)) l ≡ w = meant_within _ l (omega arith) ∙ ap value_in (at_set cells l (cell_of w) lt) ∙ value_cell w in
-    rw e (here ∙ sym (update_here (meant cells) l w)))
+    rw e (here ∙ sym (put_here (meant cells) l w)))
     (λ (d : q ≡ l → ⊥).
-    ap (λ x. cond (ltb q 65536) (value_in x) None) (at_other cells l q (cell_of w) d) ∙ sym (update_apart (meant cells) l w q d))
+    ap (λ x. cond (ltb q 65536) (value_in x) None) (at_other cells l q (cell_of w) d) ∙ sym (put_apart (meant cells) l w q d))
     (cases_eq q l))
 
 pub formed_set : (cells : List Cell) (l : ℕ) (w : Option Value) → l < span cells → Formed cells → Formed (set cells l (cell_of w))

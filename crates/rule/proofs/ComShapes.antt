@@ -7,19 +7,16 @@ use Rattle.language.specs.declared.tables.Kind.TheVariants.{Truth, Whole, Read, 
 use Rattle.language.specs.declared.values.Scalar.{Scalar}
 use Rattle.language.specs.Kinds.{with_number}
 use Rattle.language.specs.Table.{type_of}
-use Rattle.language.specs.Tree.{Decl, Arg, Expr, Com, Procs, Coms, null, assign, if, while, call, block, cnil, ccons}
-use Rattle.language.specs.Names.{check_com}
+use Rattle.language.specs.Tree.{Decl, Arg, Expr, Com, Procs, Coms, null, assign, if, while, call, block}
 use Rattle.language.specs.Spelling.{how_many_coms, size_expr, size, size_procs, size_coms}
-use Rattle.table.specs.Stretches.{blank, node_at, Named, ExprAt, ArgsAt, DeclsAt, ComAt, ProcsAt, ComsAt}
+use Rattle.table.specs.Stretches.{blank, node_at, Named, ArgsAt, DeclsAt, ComAt, ProcsAt, ComsAt}
 use Rattle.rule.specs.declared.parts.Part.{Part}
-use Rattle.rule.specs.Pieces.{long, last_node, placed, Cut, Fine, skipped, Tested, TestCuts, commands_at, Blocked, BlockCuts, Inside, IsCom}
+use Rattle.rule.specs.Pieces.{long, last_node, placed, Cut, begins, Halved, Halves, Thirded, Thirds, commands_at, Blocked, BlockCuts, Inside, IsCom}
 use Rattle.rule.specs.Rows.{decls_from, args_from}
-use Rattle.rule.specs.Seen.{Names}
-use Rattle.rule.specs.Shapes.{tested, Assigns, Tests, Calls, Blocks}
+use Rattle.rule.specs.Shapes.{Assigns, Branches, Loops, Calls, Blocks}
 use Rattle.rule.proofs.Cuts.{com_some, is_expr, is_com, is_coms, is_procs, cut_long, cut_fine}
 use Rattle.rule.proofs.ExprShapes.{ends_last, ends_kind, ends_place, some_is}
-use Rattle.rule.proofs.Snocs.{skip_are}
-use Rattle.rule.proofs.Laws.{if_tested, while_tested}
+use Rattle.rule.proofs.Snocs.{com_ended, skip_are}
 
 same_decl : (d : Decl) (s m : ℕ) (t : Scalar) → d.at ≡ s → m ≡ d.name → t ≡ d.type → record { at = s; name = m; type = t } ≡ d
 same_decl d s m t e n q = rw (sym e, n, q) refl
@@ -66,9 +63,13 @@ is_args {p} {q} {s} {e} xs c z le h =
 pub inside : {p q : Part} {s e : ℕ} → s ≤ e → e ≤ long p → Cut p q s e → Inside p q
 inside {p} {q} {s} {e} o w c = record { s = s; e = e; order = o; within = w; cut = c }
 
-pub record TestShape (p : Part) (n : ℕ) (c : Com) : Type 0 where
-  pub tested : Tested p n
-  pub view : (t r : Part) → TestCuts p n t r → Tests p t r c
+pub record IfShape (p : Part) (c : Com) : Type 0 where
+  pub thirded : Thirded p
+  pub view : (t y n : Part) → Thirds p t y n → Branches p t y n c
+
+pub record WhileShape (p : Part) (c : Com) : Type 0 where
+  pub halved : Halved p
+  pub view : (t b : Part) → Halves p t b → Loops p t b c
 
 pub record BlockShape (p : Part) (c : Com) : Type 0 where
   pub blocked : Blocked p
@@ -83,8 +84,8 @@ Shape p Less c = ⊥
 Shape p Or c = ⊥
 Shape p Null c = c ≡ null (placed p)
 Shape p Assign c = (v : Part) → Cut p v 0 (long p - 1) → Assigns p (last_node p).name v c
-Shape p If c = TestShape p 2 c
-Shape p While c = TestShape p 1 c
+Shape p If c = IfShape p c
+Shape p While c = WhileShape p c
 Shape p Call c = (a : Part) → Cut p a 0 (long p - 1) → Calls p (last_node p).name a c
 Shape p Argument c = ⊥
 Shape p DeclKind c = ⊥
@@ -98,42 +99,51 @@ module _ (p : Part) where
   name_last : {z i m : ℕ} {k : Kind} → long p ≡ z → (h : Named p.nodes.now p.lens.now p.first 0 z i k m) → m ≡ (last_node p).name
   name_last e h = sym h.name ∙ ap (λ (i : ℕ). (node_at p.nodes.now i).name) (ends_last p e h.end)
 
-  -- a test e, the commands cs in a row, and the last node
-  test_shape : (c : Com) (e : Expr) (cs : Coms) (n : ℕ) → n ≡ how_many_coms cs → long p ≡ size_expr e + size_coms cs + 1 → Fine p
-      → ExprAt p.nodes.now p.lens.now p.first 0 e → ComsAt p.nodes.now p.lens.now p.first (0 + size_expr e) cs
-      → ((ρ : Names) → check_com ρ c ≡ tested ρ e cs (placed p)) → TestShape p n c
-  test_shape c e cs n m z f he hr s =
-      let k : skipped p n (long p - 1) ≡ 0 + size_expr e = skip_are p n cs (0 + size_expr e) (long p - 1) m hr (omega arith) (omega arith) f in
-      let hs : ComsAt p.nodes.now p.lens.now p.first (skipped p n (long p - 1)) cs = subst (λ (s : ℕ). ComsAt p.nodes.now p.lens.now p.first s cs) (sym k) hr in
+  if_shape : (i : ℕ) (e : Expr) (x z : Com) → IsCom p (if i e x z) → IfShape p (if i e x z)
+  if_shape i e x z h =
+      let n = com_ended p z (0 + size_expr e + size x) (long p - 1) (omega (arith, h.whole)) (omega arith) h.fine h.at.3 in
+      let y = com_ended p x (0 + size_expr e) (begins p (long p - 1)) n.1 (omega (arith, n.1, h.whole)) h.fine h.at.2 in
+      let hz : ComAt p.nodes.now p.lens.now p.first (begins p (long p - 1)) z = subst (λ (s : ℕ). ComAt p.nodes.now p.lens.now p.first s z) (sym n.1) h.at.3 in
+      let hx : ComAt p.nodes.now p.lens.now p.first (begins p (begins p (long p - 1))) x = subst (λ (s : ℕ). ComAt p.nodes.now p.lens.now p.first s x) (sym y.1) h.at.2 in
       record {
-        tested = record {
-          some = omega arith;
-          row = record { s = 0 + size_expr e; cs = cs; at = hr; ends = omega arith; many = m; within = omega arith; fine = f };
-          low = omega arith;
-        };
-        view = λ t r c.
-            let it = is_expr e c.test (omega arith) (omega arith) f he in
-            let ir = is_coms cs c.row (omega arith) (omega arith) f hs in
+        thirded = record { some = omega (arith, h.whole); third = n.0; second = y.0 };
+        view = λ t u v c.
+            let it = is_expr e c.first (omega (arith, y.1)) (omega (arith, y.1, h.whole)) h.fine h.at.1 in
+            let iu = is_com x c.second (omega (arith, y.1, n.1)) (omega (arith, n.1, h.whole)) h.fine hx in
+            let iv = is_com z c.third (omega (arith, n.1, h.whole)) (omega arith) h.fine hz in
             record {
               e = e;
-              cs = cs;
+              x = x;
+              z = z;
+              is = ap (λ (j : ℕ). if j e x z) (ends_place p h.whole h.at.0);
               test = it;
-              row = ir;
-              row_in = inside (omega arith) (omega arith) c.row;
-              sizes = omega (arith, it.whole, ir.whole);
-              says = s;
+              yes = iu;
+              no = iv;
+              yes_in = inside (omega (arith, y.1, n.1)) (omega (arith, n.1, h.whole)) c.second;
+              no_in = inside (omega (arith, n.1, h.whole)) (omega arith) c.third;
+              sizes = omega (arith, h.whole, it.whole, iu.whole, iv.whole);
             };
       }
 
-  if_shape : (i : ℕ) (e : Expr) (x z : Com) → IsCom p (if i e x z) → TestShape p 2 (if i e x z)
-  if_shape i e x z h =
-      test_shape (if i e x z) e (ccons x (ccons z cnil)) 2 (omega arith) (omega (arith, h.whole)) h.fine h.at.1 (h.at.2, (h.at.3, tt))
-      (λ ρ. if_tested ρ i e x z ∙ ap (tested ρ e (ccons x (ccons z cnil))) (ends_place p h.whole h.at.0))
-
-  while_shape : (i : ℕ) (e : Expr) (x : Com) → IsCom p (while i e x) → TestShape p 1 (while i e x)
+  while_shape : (i : ℕ) (e : Expr) (x : Com) → IsCom p (while i e x) → WhileShape p (while i e x)
   while_shape i e x h =
-      test_shape (while i e x) e (ccons x cnil) 1 (omega arith) (omega (arith, h.whole)) h.fine h.at.1 (h.at.2, tt)
-      (λ ρ. while_tested ρ i e x ∙ ap (tested ρ e (ccons x cnil)) (ends_place p h.whole h.at.0))
+      let n = com_ended p x (0 + size_expr e) (long p - 1) (omega (arith, h.whole)) (omega arith) h.fine h.at.2 in
+      let hx : ComAt p.nodes.now p.lens.now p.first (begins p (long p - 1)) x = subst (λ (s : ℕ). ComAt p.nodes.now p.lens.now p.first s x) (sym n.1) h.at.2 in
+      record {
+        halved = record { some = omega (arith, h.whole); ended = n.0 };
+        view = λ t b c.
+            let it = is_expr e c.left (omega (arith, n.1)) (omega (arith, n.1, h.whole)) h.fine h.at.1 in
+            let ib = is_com x c.right (omega (arith, n.1, h.whole)) (omega arith) h.fine hx in
+            record {
+              e = e;
+              x = x;
+              is = ap (λ (j : ℕ). while j e x) (ends_place p h.whole h.at.0);
+              test = it;
+              body = ib;
+              body_in = inside (omega (arith, n.1, h.whole)) (omega arith) c.right;
+              sizes = omega (arith, h.whole, it.whole, ib.whole);
+            };
+      }
 
   call_shape : (i m : ℕ) (xs : List Arg) → IsCom p (call i m xs) → (a : Part) → Cut p a 0 (long p - 1) → Calls p (last_node p).name a (call i m xs)
   call_shape i m xs h a c =

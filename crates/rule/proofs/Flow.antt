@@ -1,5 +1,5 @@
 -- Assignments, conditionals and loops, from what the calls say.
-use Rattle.std.proofs.Common.{◌≡◌, ℕ, ◌≤◌, List, length, Ok, Err, Result, sym, refl, ap, ◌∙◌, arith}
+use Rattle.std.proofs.Common.{◌≡◌, ℕ, ◌≤◌, max, List, length, Ok, Err, Result, sym, refl, ap, ◌∙◌, arith}
 use Rattle.language.specs.declared.tables.Node.{Node}
 use Rattle.language.specs.declared.values.Scalar.{Scalar}
 use Rattle.language.specs.declared.values.Scalar.TheVariants.{Truth as truths}
@@ -12,32 +12,57 @@ use Rattle.language.specs.Names.{refusal, check_expr, check_com}
 use Rattle.rule.specs.declared.parts.Part.{Part}
 use Rattle.rule.specs.Pieces.{long, placed, Lies, IsExpr}
 use Rattle.rule.specs.Rows.{args_from}
-use Rattle.rule.specs.Shapes.{Assigns, Tests, Calls}
+use Rattle.rule.specs.Shapes.{Assigns, Branches, Loops, Calls}
 use Rattle.rule.specs.Seen.{Names, Looks}
-use Rattle.rule.specs.Said.{Entries, ComsSays}
+use Rattle.rule.specs.Said.{Entries, ComSays}
 
 abbrev pub ExprSays : Part → Entries → Result Scalar Fault → Type 0
 ExprSays t σ r = (x : Expr) (table : List Node) (ρ : Names) → IsExpr t x → Looks table σ ρ → r ≡ check_expr ρ x
 
-module _ (table : List Node) {p t r : Part} {c : Com} (w : Tests p t r c) (σ : Entries) (ρ : Names) (lk : Looks table σ ρ) where
-  pub test_bad : (f : Fault) → ExprSays t σ (Err f) → Err f ≡ check_com ρ c
-  test_bad f h = sym (w.says ρ ∙ rw (sym (h w.e table ρ w.test lk)) refl)
+module _ (table : List Node) {p t y n : Part} {c : Com} (w : Branches p t y n c) (σ : Entries) (ρ : Names) (lk : Looks table σ ρ) where
+  pub if_test_bad : (f : Fault) → ExprSays t σ (Err f) → Err f ≡ check_com ρ c
+  if_test_bad f h = sym (ap (check_com ρ) w.is ∙ rw (sym (h w.e table ρ w.test lk)) refl)
 
-  module _ (u : Scalar) (said : ExprSays t σ (Ok u)) where
-    pub row_bad : (f : Fault) → ComsSays table r σ (Err f) → Err f ≡ check_com ρ c
-    row_bad f h = sym (w.says ρ ∙ rw (sym (said w.e table ρ w.test lk), sym (h w.cs ρ w.row lk)) refl)
+  module _ (u : Scalar) (tested : ExprSays t σ (Ok u)) where
+    pub if_yes_bad : (f : Fault) → ComSays table y σ (Err f) → Err f ≡ check_com ρ c
+    if_yes_bad f h = sym (ap (check_com ρ) w.is ∙ rw (sym (tested w.e table ρ w.test lk), sym (h w.x ρ w.yes lk)) refl)
 
-    module _ (a i : ℕ) (row : ComsSays table r σ (Ok a)) (place : i ≡ placed p) where
-      all : check_com ρ c ≡ (asked (alike u truths) (refusal Types i) >>= λ _. Ok a)
-      all =
-          w.says ρ
-          ∙ rw (sym (said w.e table ρ w.test lk), sym (row w.cs ρ w.row lk)) (ap (λ (i : ℕ). asked (alike u truths) (refusal Types i) >>= λ _. Ok a) (sym place))
+    module _ (a : ℕ) (τ : Entries) (yes : ComSays table y σ (Ok a)) (lm : Looks table τ ρ) where
+      pub if_no_bad : (f : Fault) → ComSays table n τ (Err f) → Err f ≡ check_com ρ c
+      if_no_bad f h =
+          sym (ap (check_com ρ) w.is ∙ rw (sym (tested w.e table ρ w.test lk), sym (yes w.x ρ w.yes lk), sym (h w.z ρ w.no lm)) refl)
 
-      pub types_bad : (f : Fault) → Err f ≡ asked (alike u truths) (refusal Types i) → Err f ≡ check_com ρ c
-      types_bad f h = sym (all ∙ ap (λ (o : Result (Unit {0}) Fault). o >>= λ _. Ok a) (sym h))
+      module _ (b i : ℕ) (no : ComSays table n τ (Ok b)) (place : i ≡ placed p) where
+        all : check_com ρ c ≡ (asked (alike u truths) (refusal Types i) >>= λ _. Ok (max a b))
+        all =
+            ap (check_com ρ) w.is
+            ∙ rw (sym (tested w.e table ρ w.test lk), sym (yes w.x ρ w.yes lk), sym (no w.z ρ w.no lm)) (ap (λ (i : ℕ). asked (alike u truths) (refusal Types i) >>= λ _. Ok (max a b)) (sym place))
 
-      pub test_well : Ok tt ≡ asked (alike u truths) (refusal Types i) → Ok a ≡ check_com ρ c
-      test_well h = sym (all ∙ ap (λ (o : Result (Unit {0}) Fault). o >>= λ _. Ok a) (sym h))
+        pub if_types_bad : (f : Fault) → Err f ≡ asked (alike u truths) (refusal Types i) → Err f ≡ check_com ρ c
+        if_types_bad f h = sym (all ∙ ap (λ (o : Result (Unit {0}) Fault). o >>= λ _. Ok (max a b)) (sym h))
+
+        pub if_well : (m : ℕ) → Ok tt ≡ asked (alike u truths) (refusal Types i) → m ≡ max a b → Ok m ≡ check_com ρ c
+        if_well m h e = ap Ok e ∙ sym (all ∙ ap (λ (o : Result (Unit {0}) Fault). o >>= λ _. Ok (max a b)) (sym h))
+
+module _ (table : List Node) {p t b : Part} {c : Com} (w : Loops p t b c) (σ : Entries) (ρ : Names) (lk : Looks table σ ρ) where
+  pub while_test_bad : (f : Fault) → ExprSays t σ (Err f) → Err f ≡ check_com ρ c
+  while_test_bad f h = sym (ap (check_com ρ) w.is ∙ rw (sym (h w.e table ρ w.test lk)) refl)
+
+  module _ (u : Scalar) (tested : ExprSays t σ (Ok u)) where
+    pub while_body_bad : (f : Fault) → ComSays table b σ (Err f) → Err f ≡ check_com ρ c
+    while_body_bad f h = sym (ap (check_com ρ) w.is ∙ rw (sym (tested w.e table ρ w.test lk), sym (h w.x ρ w.body lk)) refl)
+
+    module _ (a i : ℕ) (body : ComSays table b σ (Ok a)) (place : i ≡ placed p) where
+      round : check_com ρ c ≡ (asked (alike u truths) (refusal Types i) >>= λ _. Ok a)
+      round =
+          ap (check_com ρ) w.is
+          ∙ rw (sym (tested w.e table ρ w.test lk), sym (body w.x ρ w.body lk)) (ap (λ (i : ℕ). asked (alike u truths) (refusal Types i) >>= λ _. Ok a) (sym place))
+
+      pub while_types_bad : (f : Fault) → Err f ≡ asked (alike u truths) (refusal Types i) → Err f ≡ check_com ρ c
+      while_types_bad f h = sym (round ∙ ap (λ (o : Result (Unit {0}) Fault). o >>= λ _. Ok a) (sym h))
+
+      pub while_well : Ok tt ≡ asked (alike u truths) (refusal Types i) → Ok a ≡ check_com ρ c
+      while_well h = sym (round ∙ ap (λ (o : Result (Unit {0}) Fault). o >>= λ _. Ok a) (sym h))
 
 pub assign_is : {p v : Part} {m : ℕ} {c : Com} (w : Assigns p m v c) (ρ : Names) (i : ℕ) (o : Result ℕ Fault) → i ≡ placed p → o ≡ check_com ρ (assign i m w.e) → o ≡ check_com ρ c
 assign_is {m} w ρ i o e h = h ∙ ap (λ (i : ℕ). check_com ρ (assign i m w.e)) e ∙ ap (check_com ρ) (sym w.is)

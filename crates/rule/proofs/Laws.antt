@@ -1,17 +1,13 @@
 -- Laws of the definition: rows from their end, and the sight that procedures add to.
 use Rattle.std.proofs.Common.{◌≡◌, ℕ, max, Bool, true, false, cond, not, List, [], ◌∷◌, Some, Ok, Err, Result, refl, ap, ◌∙◌, arith}
-use Rattle.language.specs.declared.values.Scalar.{Scalar}
-use Rattle.language.specs.declared.values.Scalar.TheVariants.{Truth as truths}
 use Rattle.language.specs.declared.faults.Fault.{Fault}
-use Rattle.language.specs.declared.faults.NamesCause.TheVariants.{Repeated, Types}
+use Rattle.language.specs.declared.faults.NamesCause.TheVariants.{Repeated}
 use Rattle.language.specs.Same.{same}
-use Rattle.language.specs.Values.{alike}
-use Rattle.language.specs.Tree.{Decl, Expr, Com, Procs, Coms, if, while, pnil, pcons, cnil, ccons}
+use Rattle.language.specs.Tree.{Decl, Com, Procs, Coms, pnil, pcons, cnil, ccons}
 use Rattle.language.specs.Results.{◌>>=◌, asked}
 use Rattle.language.specs.Sight.{look, member}
-use Rattle.language.specs.Names.{Entry, variable, procedure, refusal, variables, proc_names, types, check_decls, check_expr, check_com, check_procs, check_coms}
+use Rattle.language.specs.Names.{Entry, variable, procedure, refusal, variables, proc_names, types, check_decls, check_com, check_procs, check_coms}
 use Rattle.rule.specs.Seen.{Names}
-use Rattle.rule.specs.Shapes.{tested}
 use Rattle.rule.specs.Said.{seen_after, body_said}
 use Rattle.rule.proofs.Snocs.{psnoc, csnoc}
 
@@ -32,27 +28,6 @@ pub coms_snoc : (ρ : Names) (cs : Coms) (c : Com) → check_coms ρ (csnoc cs c
 unfolding csnoc
 coms_snoc ρ cnil c = largest_zero (check_com ρ c)
 coms_snoc ρ (ccons d cs) c = ap (largest (check_com ρ d)) (coms_snoc ρ cs c) ∙ largest_assoc (check_com ρ d) (check_coms ρ cs) (check_com ρ c)
-
-largest_alone : (a : Result ℕ Fault) → a ≡ largest a (Ok 0)
-largest_alone (Err f) = refl
-largest_alone (Ok n) = ap Ok (omega arith)
-
--- the commands of a conditional, and of a loop, as a row
-both_branches : (o : Result Scalar Fault) (a b : Result ℕ Fault) (i : ℕ)
-    → (o >>= λ t. a >>= λ n. b >>= λ m. asked (alike t truths) (refusal Types i) >>= λ _. Ok (max n m)) ≡ (o >>= λ t. largest a b >>= λ n. asked (alike t truths) (refusal Types i) >>= λ _. Ok n)
-both_branches (Err f) a b i = refl
-both_branches (Ok t) (Err f) b i = refl
-both_branches (Ok t) (Ok n) (Err f) i = refl
-both_branches (Ok t) (Ok n) (Ok m) i = refl
-
-pub if_tested : (ρ : Names) (i : ℕ) (e : Expr) (x z : Com) → check_com ρ (if i e x z) ≡ tested ρ e (ccons x (ccons z cnil)) i
-if_tested ρ i e x z =
-    both_branches (check_expr ρ e) (check_com ρ x) (check_com ρ z) i
-    ∙ ap (λ (a : Result ℕ Fault). check_expr ρ e >>= λ t. largest (check_com ρ x) a >>= λ n. asked (alike t truths) (refusal Types i) >>= λ _. Ok n) (largest_alone (check_com ρ z))
-
-pub while_tested : (ρ : Names) (i : ℕ) (e : Expr) (x : Com) → check_com ρ (while i e x) ≡ tested ρ e (ccons x cnil) i
-while_tested ρ i e x =
-    ap (λ (a : Result ℕ Fault). check_expr ρ e >>= λ t. a >>= λ n. asked (alike t truths) (refusal Types i) >>= λ _. Ok n) (largest_alone (check_com ρ x))
 
 -- one procedure more
 abbrev pub one_proc : Names → List ℕ → ℕ → ℕ → List Decl → Com → Names → Result Names Fault

@@ -7,7 +7,7 @@ mod Snocs
 mod ComShapes
 mod Sights
 mod Laws
-pub mod Bounds
+mod Bounds
 mod Splits
 mod Names
 mod Passes

@@ -47,6 +47,18 @@ pub record Halves (p l r : Part) : Type 0 where
   pub left : Cut p l 0 (begins p (long p - 1))
   pub right : Cut p r (begins p (long p - 1)) (long p - 1)
 
+-- two pieces end right before the last node
+pub record Thirded (p : Part) : Type 0 where
+  pub some : 1 ≤ long p
+  pub third : Ended p (long p - 1)
+  pub second : Ended p (begins p (long p - 1))
+
+-- f, s and t are what stands before those pieces, and the pieces
+pub record Thirds (p f s t : Part) : Type 0 where
+  pub first : Cut p f 0 (begins p (begins p (long p - 1)))
+  pub second : Cut p s (begins p (begins p (long p - 1))) (begins p (long p - 1))
+  pub third : Cut p t (begins p (long p - 1)) (long p - 1)
+
 -- r is the last piece, and l what stands before it
 pub record Lasts (p l r : Part) : Type 0 where
   pub left : Cut p l 0 (begins p (long p))
@@ -66,17 +78,6 @@ pub record RowEnds (p : Part) (n e : ℕ) : Type 0 where
 abbrev pub skipped : Part → ℕ → ℕ → ℕ
 skipped p zero e = e
 skipped p (suc n) e = skipped p n (begins p e)
-
--- n commands end right before the last node
-pub record Tested (p : Part) (n : ℕ) : Type 0 where
-  pub some : 1 ≤ long p
-  pub row : RowEnds p n (long p - 1)
-  pub low : skipped p n (long p - 1) ≤ long p - 1
-
--- t and r are what stands before those commands, and the commands
-pub record TestCuts (p : Part) (n : ℕ) (t r : Part) : Type 0 where
-  pub test : Cut p t 0 (skipped p n (long p - 1))
-  pub row : Cut p r (skipped p n (long p - 1)) (long p - 1)
 
 -- where the commands of a block begin
 abbrev pub commands_at : Part → ℕ

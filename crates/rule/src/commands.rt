@@ -82,9 +82,16 @@ pub(crate) fn command(
     match view(part) {
         ComView::Null => Ok(0),
         ComView::Assign(name, value) => assign(name, value, part.place(), scope),
-        ComView::Tested(test, coms) => {
+        ComView::If(test, yes, no) => {
             let t = expression(test, scope)?;
-            let n = commands(table, coms, scope, types)?;
+            let n = command(table, yes, scope, types)?;
+            let m = command(table, no, scope, types)?;
+            agree(t, Scalar::Truth, part.place())?;
+            Ok(larger(n, m))
+        }
+        ComView::While(test, body) => {
+            let t = expression(test, scope)?;
+            let n = command(table, body, scope, types)?;
             agree(t, Scalar::Truth, part.place())?;
             Ok(n)
         }

@@ -10,8 +10,9 @@ use language::{Kind, Name};
 pub enum ComView<'a> {
     Null,
     Assign(Name, Part<'a>),
-    // a test, and the row of commands that it decides on: two of a conditional, one of a loop
-    Tested(Part<'a>, Part<'a>),
+    // the test, and the commands for yes and for no
+    If(Part<'a>, Part<'a>, Part<'a>),
+    While(Part<'a>, Part<'a>),
     Call(Name, Part<'a>),
     // the variables, the procedures and the commands
     Block(Part<'a>, Part<'a>, Part<'a>),
@@ -25,12 +26,12 @@ pub(crate) fn view<'a>(part: Part<'a>) -> ComView<'a>
         Kind::Null => ComView::Null,
         Kind::Assign => ComView::Assign(part.last().name, part.body()),
         Kind::If => {
-            let (test, branches) = part.test_parts(2);
-            ComView::Tested(test, branches)
+            let (test, yes, no) = part.thirds();
+            ComView::If(test, yes, no)
         }
         Kind::While => {
-            let (test, body) = part.test_parts(1);
-            ComView::Tested(test, body)
+            let (test, body) = part.halves();
+            ComView::While(test, body)
         }
         Kind::Call => ComView::Call(part.last().name, part.body()),
         _ => {

@@ -1,7 +1,7 @@
 // Parts of a table, each the stretch of one piece: handed on to the check of that piece.
 ghost use Rattle.std.specs.Prelude.{◌≡◌, ℕ, ◌-◌, ◌≤◌, true, is_some, Some};
 ghost use Rattle.language.specs.Kinds.{with_number};
-ghost use Rattle.rule.specs.Pieces.{long, last_node, placed, Cut, Fine, Ended, begins, Halved, Halves, Lasts, RowEnds, skipped, Tested, TestCuts, Blocked, BlockCuts, ProcEnds, ProcCuts};
+ghost use Rattle.rule.specs.Pieces.{long, last_node, placed, Cut, Fine, Ended, begins, Halved, Halves, Thirded, Thirds, Lasts, RowEnds, skipped, Blocked, BlockCuts, ProcEnds, ProcCuts};
 
 use language::{Kind, Node};
 
@@ -72,6 +72,21 @@ impl<'a> Part<'a> {
         (self.cut(0, middle), self.cut(middle, end))
     }
 
+    // The three pieces in front of the last node.
+    pub(crate) fn thirds(self) -> (Part<'a>, Part<'a>, Part<'a>)
+        requires thirded { Thirded self }
+        ensures thirds { Thirds self.entry result.0 result.1 result.2 }
+    {
+        let end = self.nodes.len() - 1;
+        let third = self.start_of(end);
+        let second = self.start_of(third);
+        (
+            self.cut(0, second),
+            self.cut(second, third),
+            self.cut(third, end),
+        )
+    }
+
     // All but the last node.
     pub(crate) fn body(self) -> Part<'a>
         requires some { 1 ≤ long self }
@@ -103,16 +118,6 @@ impl<'a> Part<'a> {
             left -= 1;
         }
         start
-    }
-
-    // The test, and the row of `count` commands between it and the last node.
-    pub(crate) fn test_parts(self, count: u16) -> (Part<'a>, Part<'a>)
-        requires tested { Tested self count }
-        ensures cuts { TestCuts self.entry count result.0 result.1 }
-    {
-        let end = self.nodes.len() - 1;
-        let start = self.skip(end, count);
-        (self.cut(0, start), self.cut(start, end))
     }
 
     // The variables, the procedures and the commands of a block.

@@ -9,7 +9,7 @@ returns c =
     let l = c.args.location in
     let w = c.args.held in
     let size : cell_size * l + cell_size - cell_size * l ≡ cell_size = omega arith in
-    let e = written xs _ l _ w size (c.copy-from-slice.ensures.after ∙ c.encode.ensures.bytes) in
+    let e = written xs _ l _ w size (c.copy_from_slice.ensures.after ∙ c.encode.ensures.bytes) in
     let back : value_in (cell_bytes w) ≡ w = ap value_in (sym c.encode.ensures.bytes) ∙ c.encode.ensures.back in
     record {
       bytes = e;

@@ -2,8 +2,8 @@ use Rattle.std.proofs.Common.{◌∙◌, arith, to_z-of_z, w32, SFits, rules}
 use Rattle.piece.proofs.Passes.{remember_whole, remember_more, remember_all}
 use Rattle.piece.proofs.points.remember.Goals as goal
 
-pub shift-at-requires : goal.shift-at-requires
-shift-at-requires g c = record {
+pub shift_at-requires : goal.shift_at-requires
+shift_at-requires g c = record {
   whole = remember_whole (g.S.Store.at c.args.store.now) c.args.points.now c.loop-i.points c.loop-i.i c.loop-i.invariant
       (let t = c.loop-i-test.true in let w = c.requires.within in omega arith) c.args.count c.requires.within c.loop-i-test.true c.requires.whole;
 }

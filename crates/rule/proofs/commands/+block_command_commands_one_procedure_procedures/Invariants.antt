@@ -11,8 +11,8 @@ decreases-command l = 5 * long l.part + 1
 abbrev pub decreases-commands : goal.decreases-commands
 decreases-commands l = 5 * long l.part + 2
 
-abbrev pub decreases-one-procedure : goal.decreases-one-procedure
-decreases-one-procedure l = 5 * long l.part + 2
+abbrev pub decreases-one_procedure : goal.decreases-one_procedure
+decreases-one_procedure l = 5 * long l.part + 2
 
 abbrev pub decreases-procedures : goal.decreases-procedures
 decreases-procedures l = 5 * long l.part + 3

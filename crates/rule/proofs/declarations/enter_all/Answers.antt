@@ -5,7 +5,7 @@ use Rattle.rule.proofs.declarations.enter_all.Goals as goal
 
 pub loop-k-preserved : goal.loop-k-preserved
 loop-k-preserved c = (
-  entered_turn c.args.nodes.now c.loop-k.k _ _ _ _ c.loop-k-test.true c.type-of.ensures.given c.enter.ensures.sight c.loop-k.invariant.0,
+  entered_turn c.args.nodes.now c.loop-k.k _ _ _ _ c.loop-k-test.true c.type_of.ensures.given c.enter.ensures.sight c.loop-k.invariant.0,
   grown_then c.loop-k.invariant.1 c.enter.ensures.grown,
 )
 

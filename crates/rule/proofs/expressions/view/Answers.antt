@@ -14,9 +14,9 @@ operator-requires c = record { halved = (shape_of c.args.part Plus c.requires.so
 pub operator-requires-in-Less : goal.operator-requires-in-Less
 operator-requires-in-Less c = record { halved = (shape_of c.args.part Less c.requires.some.0 c.in-Less.ensures.kind c.requires.some.1).halved }
 
-pub operator-requires-in-default : goal.operator-requires-in-default
-operator-requires-in-default c = record {
-  halved = (shape_rest c.args.part c.kind.result c.requires.some.0 c.in-default.not-Truth c.in-default.not-Whole c.in-default.not-Read c.in-default.not-Plus c.in-default.not-Less
+pub operator-requires-in_default : goal.operator-requires-in_default
+operator-requires-in_default c = record {
+  halved = (shape_rest c.args.part c.kind.result c.requires.some.0 c.in_default.not-Truth c.in_default.not-Whole c.in_default.not-Read c.in_default.not-Plus c.in_default.not-Less
       (shape_of c.args.part c.kind.result c.requires.some.0 c.kind.ensures.kind c.requires.some.1)).halved;
 }
 
@@ -35,11 +35,11 @@ returns-in-Plus c = record { shows = λ x h. operates c.args.part x (shape_of c.
 pub returns-in-Less : goal.returns-in-Less
 returns-in-Less c = record { shows = λ x h. operates c.args.part x (shape_of c.args.part Less x c.in-Less.ensures.kind h) c.operator-in-Less.ensures.halves }
 
-pub returns-in-default : goal.returns-in-default
-returns-in-default c = record {
+pub returns-in_default : goal.returns-in_default
+returns-in_default c = record {
   shows = λ x h.
       operates c.args.part x
-      (shape_rest c.args.part c.kind.result x c.in-default.not-Truth c.in-default.not-Whole c.in-default.not-Read c.in-default.not-Plus c.in-default.not-Less
+      (shape_rest c.args.part c.kind.result x c.in_default.not-Truth c.in_default.not-Whole c.in_default.not-Read c.in_default.not-Plus c.in_default.not-Less
       (shape_of c.args.part c.kind.result x c.kind.ensures.kind h))
-      c.operator-in-default.ensures.halves;
+      c.operator-in_default.ensures.halves;
 }

@@ -11,11 +11,11 @@ last-requires c = record { some = com_long c.args.part c.requires.some.0 c.requi
 pub body-requires : goal.body-requires
 body-requires c = record { some = com_long c.args.part c.requires.some.0 c.requires.some.1; fine = c.requires.some.1.fine }
 
-pub test-parts-requires : goal.test-parts-requires
-test-parts-requires c = record { tested = (shape_of c.args.part If c.requires.some.0 c.in-If.ensures.kind c.requires.some.1).tested }
+pub thirds-requires : goal.thirds-requires
+thirds-requires c = record { thirded = (shape_of c.args.part If c.requires.some.0 c.in-If.ensures.kind c.requires.some.1).thirded }
 
-pub test-parts-requires-in-While : goal.test-parts-requires-in-While
-test-parts-requires-in-While c = record { tested = (shape_of c.args.part While c.requires.some.0 c.in-While.ensures.kind c.requires.some.1).tested }
+pub halves-requires : goal.halves-requires
+halves-requires c = record { halved = (shape_of c.args.part While c.requires.some.0 c.in-While.ensures.kind c.requires.some.1).halved }
 
 pub last-requires-in-Call : goal.last-requires-in-Call
 last-requires-in-Call c = record { some = com_long c.args.part c.requires.some.0 c.requires.some.1 }
@@ -23,10 +23,10 @@ last-requires-in-Call c = record { some = com_long c.args.part c.requires.some.0
 pub body-requires-in-Call : goal.body-requires-in-Call
 body-requires-in-Call c = record { some = com_long c.args.part c.requires.some.0 c.requires.some.1; fine = c.requires.some.1.fine }
 
-pub block-parts-requires : goal.block-parts-requires
-block-parts-requires c = record {
+pub block_parts-requires : goal.block_parts-requires
+block_parts-requires c = record {
   blocked =
-      (shape_rest c.args.part c.kind.result c.requires.some.0 c.in-default.not-Null c.in-default.not-Assign c.in-default.not-If c.in-default.not-While c.in-default.not-Call
+      (shape_rest c.args.part c.kind.result c.requires.some.0 c.in_default.not-Null c.in_default.not-Assign c.in_default.not-If c.in_default.not-While c.in_default.not-Call
       (shape_of c.args.part c.kind.result c.requires.some.0 c.kind.ensures.kind c.requires.some.1)).blocked;
 }
 
@@ -40,10 +40,10 @@ returns-in-Assign c = record {
 }
 
 pub returns-in-If : goal.returns-in-If
-returns-in-If c = record { shows = λ x h. (shape_of c.args.part If x c.in-If.ensures.kind h).view _ _ c.test-parts.ensures.cuts }
+returns-in-If c = record { shows = λ x h. (shape_of c.args.part If x c.in-If.ensures.kind h).view _ _ _ c.thirds.ensures.thirds }
 
 pub returns-in-While : goal.returns-in-While
-returns-in-While c = record { shows = λ x h. (shape_of c.args.part While x c.in-While.ensures.kind h).view _ _ c.test-parts-in-While.ensures.cuts }
+returns-in-While c = record { shows = λ x h. (shape_of c.args.part While x c.in-While.ensures.kind h).view _ _ c.halves.ensures.halves }
 
 pub returns-in-Call : goal.returns-in-Call
 returns-in-Call c = record {
@@ -51,9 +51,9 @@ returns-in-Call c = record {
       call_shows c.args.part c.last-in-Call.result x c.body-in-Call.result c.last-in-Call.ensures.node (shape_of c.args.part Call x c.in-Call.ensures.kind h _ c.body-in-Call.ensures.cut);
 }
 
-pub returns-in-default : goal.returns-in-default
-returns-in-default c = record {
+pub returns-in_default : goal.returns-in_default
+returns-in_default c = record {
   shows = λ x h.
-      (shape_rest c.args.part c.kind.result x c.in-default.not-Null c.in-default.not-Assign c.in-default.not-If c.in-default.not-While c.in-default.not-Call
+      (shape_rest c.args.part c.kind.result x c.in_default.not-Null c.in_default.not-Assign c.in_default.not-If c.in_default.not-While c.in_default.not-Call
       (shape_of c.args.part c.kind.result x c.kind.ensures.kind h)).view _ _ _ c.block_parts.ensures.cuts;
 }

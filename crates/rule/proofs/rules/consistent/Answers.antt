@@ -16,14 +16,14 @@ command-requires c =
       types = c.requires.types;
     }
 
-pub returns-in-err-need : goal.returns-in-err-need
-returns-in-err-need c =
-    let b = err_from_is_err_and c.from-residual.result c.from-residual.ensures.1 in
+pub returns-in_err-need : goal.returns-in_err-need
+returns-in_err-need c =
+    let b = err_from_is_err_and c.from_residual.result c.from_residual.ensures.1 in
     record {
       says =
           b.1 ∙ ap Err b.2
           ∙ whole_bad c.args.nodes.now _ c.args.lens.now _ c.requires.lengths (whole_is _ c.args.lens.now refl refl c.requires.lens c.requires.most c.requires.lengths)
-          (outset_looks _ c.new-scope.result c.enter.new.scope c.enter-2.new.scope c.new-scope.ensures.nothing_in_sight c.enter.ensures.sight c.enter-2.ensures.sight) _ c.in-err-need.ensures.says;
+          (outset_looks _ c.new-scope.result c.enter.new.scope c.enter-2.new.scope c.new-scope.ensures.nothing_in_sight c.enter.ensures.sight c.enter-2.ensures.sight) _ c.in_err-need.ensures.says;
     }
 
 pub overflow-add-result : goal.overflow-add-result
@@ -32,7 +32,7 @@ overflow-add-result c =
       arith,
       c.requires.most,
       whole_small c.args.nodes.now _ c.args.lens.now _ c.requires.lengths (whole_is _ c.args.lens.now refl refl c.requires.lens c.requires.most c.requires.lengths)
-          (outset_looks _ c.new-scope.result c.enter.new.scope c.enter-2.new.scope c.new-scope.ensures.nothing_in_sight c.enter.ensures.sight c.enter-2.ensures.sight) c.in-ok-need.need c.in-ok-need.ensures.says,
+          (outset_looks _ c.new-scope.result c.enter.new.scope c.enter-2.new.scope c.new-scope.ensures.nothing_in_sight c.enter.ensures.sight c.enter-2.ensures.sight) c.in_ok-need.need c.in_ok-need.ensures.says,
     )
 
 pub returns : goal.returns
@@ -40,5 +40,5 @@ returns c =
     record {
       says =
           whole_well c.args.nodes.now _ c.args.lens.now _ c.requires.lengths (whole_is _ c.args.lens.now refl refl c.requires.lens c.requires.most c.requires.lengths)
-          (outset_looks _ c.new-scope.result c.enter.new.scope c.enter-2.new.scope c.new-scope.ensures.nothing_in_sight c.enter.ensures.sight c.enter-2.ensures.sight) c.in-ok-need.need c.in-ok-need.ensures.says;
+          (outset_looks _ c.new-scope.result c.enter.new.scope c.enter-2.new.scope c.new-scope.ensures.nothing_in_sight c.enter.ensures.sight c.enter-2.ensures.sight) c.in_ok-need.need c.in_ok-need.ensures.says;
     }

@@ -9,16 +9,16 @@ loop-k-init c =
     let s = c.args.scope.now in
     binding_first _ _ _ _ _ _ _ c.requires.seen (linked_down s.records.now s.top s.within s.down)
 
-pub see-from-requires : goal.see-from-requires
-see-from-requires c = record { there = omega (arith, c.loop-k.invariant.top, c.position-caller.ensures.there) }
+pub see_from-requires : goal.see_from-requires
+see_from-requires c = record { there = omega (arith, c.loop-k.invariant.top, c.position-caller.ensures.there) }
 
-pub returns-in-err-location : goal.returns-in-err-location
-returns-in-err-location c =
-    let p = err_from_is_err_and c.from-residual.result c.from-residual.ensures.1 in
+pub returns-in_err-location : goal.returns-in_err-location
+returns-in_err-location c =
+    let p = err_from_is_err_and c.from_residual.result c.from_residual.ensures.1 in
     let o = c.loop-k.invariant in
-    let f = c.see-from.ensures in
+    let f = c.see_from.ensures in
     let s = c.args.scope.now in
-    let e = rw (f.records_kept, f.head_after, c.position-caller.ensures.head) at c.in-err-location.ensures.location in
+    let e = rw (f.records_kept, f.head_after, c.position-caller.ensures.head) at c.in_err-location.ensures.location in
     record {
       older_kept = rw f.records_kept o.older;
       length_kept = rw f.records_kept o.long;
@@ -29,10 +29,10 @@ returns-in-err-location c =
 pub loop-k-preserved : goal.loop-k-preserved
 loop-k-preserved c =
     let o = c.loop-k.invariant in
-    let f = c.see-from.ensures in
-    let h = c.see-from-in-loop-k.ensures in
+    let f = c.see_from.ensures in
+    let h = c.see_from-in-loop-k.ensures in
     let s = c.args.scope.now in
-    let e = rw (f.records_kept, f.head_after, c.position-caller.ensures.head) at c.in-ok-location.ensures.location in
+    let e = rw (f.records_kept, f.head_after, c.position-caller.ensures.head) at c.in_ok-location.ensures.location in
     let r = rw (h.records_kept, f.records_kept, h.top_kept, f.top_kept, h.head_after) at c.enter.ensures.records_after in
     let t = rw (h.top_kept, f.top_kept) at c.enter.ensures.top_after in
     let n = c.position-inner.ensures.head ∙ (rw (h.top_kept, f.top_kept) at c.enter.ensures.head_after) in
@@ -42,7 +42,7 @@ loop-k-preserved c =
 pub returns : goal.returns
 returns c =
     let o = c.loop-k.invariant in
-    let f = c.see-from-2.ensures in
+    let f = c.see_from-2.ensures in
     let e : c.loop-k.k ≡ c.args.count = omega arith in
     record {
       older_kept = rw f.records_kept o.older;

@@ -12,8 +12,8 @@ loop-init c =
 pub overflow-sub-at : goal.overflow-sub-at
 overflow-sub-at c = (coms_one c.args.table.nodes.now c.args.table.lens.now 0 c.loop.end c.args.count c.loop.counter (omega arith) c.loop.invariant.3).0
 
-pub push-frame-depth-requires : goal.push-frame-depth-requires
-push-frame-depth-requires c = record { room = omega (arith, c.loop.invariant.0, c.requires.room) }
+pub push_frame-depth-requires : goal.push_frame-depth-requires
+push_frame-depth-requires c = record { room = omega (arith, c.loop.invariant.0, c.requires.room) }
 
 pub start-end-requires : goal.start-end-requires
 start-end-requires c =
@@ -24,11 +24,11 @@ loop-preserved c =
     let h = coms_one c.args.table.nodes.now c.args.table.lens.now 0 c.loop.end c.args.count c.loop.counter (omega arith) c.loop.invariant.3 in
     let lt : start_at c.args.table.lens.now (c.loop.end - 1) < c.loop.end = h.3 in
     let s : c.start-end.result ≡ start_at c.args.table.lens.now (c.loop.end - 1) = c.start-end.ensures.start in (
-      omega (arith, c.push-frame-depth.ensures.depth, c.loop.invariant.0),
+      omega (arith, c.push_frame-depth.ensures.depth, c.loop.invariant.0),
       omega (arith, c.loop.invariant.1),
       rw s (sym (back_one c.args.table.lens.now c.loop.end c.args.count c.loop.counter (omega arith)) ∙ c.loop.invariant.2),
       rw s h.4,
-      rw s (ap (pushed c.args.table.lens.now _ _ _ (start_at c.args.table.lens.now (c.loop.end - 1)) _) c.push-frame-depth.ensures.frames
+      rw s (ap (pushed c.args.table.lens.now _ _ _ (start_at c.args.table.lens.now (c.loop.end - 1)) _) c.push_frame-depth.ensures.frames
           ∙ sym (pushed_one c.args.table.lens.now _ _ _ c.loop.end c.args.count c.loop.counter _ (omega arith))
           ∙ c.loop.invariant.4),
     )

@@ -5,11 +5,11 @@ use Rattle.run.proofs.Arms.{out_of_units, assign_does}
 use Rattle.run.proofs.Turns.{running, stopped_here, ended_here, of_assign}
 use Rattle.run.proofs.machine.begin_assign.Goals as goal
 
-pub returns-in-err-units : goal.returns-in-err-units
-returns-in-err-units g c =
-    let p = err_from_is_err_and c.from-residual.result c.from-residual.ensures.1 in
+pub returns-in_err-units : goal.returns-in_err-units
+returns-in_err-units g c =
+    let p = err_from_is_err_and c.from_residual.result c.from_residual.ensures.1 in
     let n = running _ _ _ _ _ _ c.requires.ready c.requires.runs in
-    let e = c.in-err-units.ensures.ticked in
+    let e = c.in_err-units.ensures.ticked in
     record {
       limit_kept = refl;
       stepped = rw (p.1, p.2) (stopped_here _ _ _ _ _ _ _ c.requires.ready c.requires.runs _ _ _ refl _ (out_of_units _ _ _ _ _ _ _ _ n.at n.command e.0 e.1));
@@ -29,23 +29,23 @@ overflow-sub-frame g c =
     let n = running _ _ _ _ _ _ c.requires.ready c.requires.runs in
     (of_assign _ _ c.requires.ready.shaped _ n.at c.requires.kind).0
 
-pub returns-in-err-assign : goal.returns-in-err-assign
-returns-in-err-assign g c =
-    let p = err_from_is_err_and c.from-residual-in-err-assign.result c.from-residual-in-err-assign.ensures.1 in
+pub returns-in_err-assign : goal.returns-in_err-assign
+returns-in_err-assign g c =
+    let p = err_from_is_err_and c.from_residual-in_err-assign.result c.from_residual-in_err-assign.ensures.1 in
     let n = running _ _ _ _ _ _ c.requires.ready c.requires.runs in
-    let a = rw (c.requires.ready.position, ap (λ (x : Node). x.name) c.node-name.ensures.node) at c.in-err-assign.ensures.assigned in
+    let a = rw (c.requires.ready.position, ap (λ (x : Node). x.name) c.node-name.ensures.node) at c.in_err-assign.ensures.assigned in
     record {
       limit_kept = c.assign.ensures.limit_kept;
       stepped = rw (p.1, p.2) (stopped_here _ _ _ _ _ _ _ c.requires.ready c.requires.runs _ _ _ c.assign.ensures.frames_kept _
-          (assign_does _ _ _ _ _ _ _ _ c.in-ok-units.units n.at c.in-ok-units.ensures.ticked _ (Err c.in-err-assign.field-0.0) c.requires.kind a));
+          (assign_does _ _ _ _ _ _ _ _ c.in_ok-units.units n.at c.in_ok-units.ensures.ticked _ (Err c.in_err-assign.field-0.0) c.requires.kind a));
     }
 
 pub returns : goal.returns
 returns g c =
     let n = running _ _ _ _ _ _ c.requires.ready c.requires.runs in
-    let a = rw (c.requires.ready.position, ap (λ (x : Node). x.name) c.node-name.ensures.node) at c.in-ok-assign.ensures.assigned in
+    let a = rw (c.requires.ready.position, ap (λ (x : Node). x.name) c.node-name.ensures.node) at c.in_ok-assign.ensures.assigned in
     record {
       limit_kept = c.assign.ensures.limit_kept;
-      stepped = ended_here _ _ _ _ _ _ _ c.requires.ready c.requires.runs _ _ _ c.assign.ensures.frames_kept _ c.in-ok-units.ensures.ticked
-          (assign_does _ _ _ _ _ _ _ _ c.in-ok-units.units n.at c.in-ok-units.ensures.ticked _ (Ok tt) c.requires.kind a);
+      stepped = ended_here _ _ _ _ _ _ _ c.requires.ready c.requires.runs _ _ _ c.assign.ensures.frames_kept _ c.in_ok-units.ensures.ticked
+          (assign_does _ _ _ _ _ _ _ _ c.in_ok-units.units n.at c.in_ok-units.ensures.ticked _ (Ok tt) c.requires.kind a);
     }

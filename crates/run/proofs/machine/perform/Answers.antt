@@ -11,14 +11,14 @@ unfolding newest_first
 loop-left-init g c =
     let s = c.args.scope.now in (
       refl,
-      omega (arith, c.push-frame-depth.ensures.depth, c.requires.some, c.requires.levels, c.push-frame-depth.auto.levels),
-      went_first _ _ _ _ _ _ _ _ _ _ c.requires.some c.requires.command s.low (linked_down s.records.now s.top s.within s.down) c.requires.procedures c.requires.records (omega (arith, c.requires.levels, c.push-frame-depth.auto.levels))
-          (rw (c.used.ensures.top, c.position.ensures.head) at c.push-frame-depth.ensures.frames),
+      omega (arith, c.push_frame-depth.ensures.depth, c.requires.some, c.requires.levels, c.push_frame-depth.auto.levels),
+      went_first _ _ _ _ _ _ _ _ _ _ c.requires.some c.requires.command s.low (linked_down s.records.now s.top s.within s.down) c.requires.procedures c.requires.records (omega (arith, c.requires.levels, c.push_frame-depth.auto.levels))
+          (rw (c.used.ensures.top, c.position.ensures.head) at c.push_frame-depth.ensures.frames),
     )
 
 pub step-requires : goal.step-requires
 step-requires g c =
-    let n : length c.loop-left.levels ≡ length c.push-frame-depth.new.levels = omega arith in
+    let n : length c.loop-left.levels ≡ length c.push_frame-depth.new.levels = omega arith in
     record { shaped = c.requires.shaped; some = omega arith; within = c.loop-left.invariant.1; good = rw n c.loop-left.invariant.2.good }
 
 pub loop-left-preserved : goal.loop-left-preserved
@@ -41,8 +41,8 @@ unwind-requires g c =
 
 pub returns-in-Err : goal.returns-in-Err
 returns-in-Err g c =
-    let n : length c.loop-left.levels ≡ length c.push-frame-depth.new.levels = omega arith in
-    let m : length c.step.new.levels ≡ length c.push-frame-depth.new.levels = omega arith in
+    let n : length c.loop-left.levels ≡ length c.push_frame-depth.new.levels = omega arith in
+    let m : length c.step.new.levels ≡ length c.push_frame-depth.new.levels = omega arith in
     let stopped = went_then _ _ _ _ _ _ _ _ _ _ _ _ _ _ _ _ _ _ _ _ _ _ _ c.loop-left.invariant.2 c.loop-left.invariant.0 n c.in-Err.ensures.stepped in
     let l = c.step.ensures.limit_kept ∙ c.loop-left.invariant.0 in
     record {

@@ -3,33 +3,33 @@ use Rattle.std.proofs.lemmas.Result.{err_from_is_err_and}
 use Rattle.run.proofs.Whole.{result_stopped, result_dead, result_whole, result_no_whole}
 use Rattle.run.proofs.runs.result_of.Goals as goal
 
-pub returns-in-err-left : goal.returns-in-err-left
-returns-in-err-left g c =
-    let p = err_from_is_err_and c.from-residual.result c.from-residual.ensures.1 in
+pub returns-in_err-left : goal.returns-in_err-left
+returns-in_err-left g c =
+    let p = err_from_is_err_and c.from_residual.result c.from_residual.ensures.1 in
     rw (p.1, p.2) record {
-      limit_kept = c.perform-rule.ensures.limit_kept;
-      result = λ d e. result_stopped _ _ _ d _ _ _ _ (c.in-err-left.ensures.performed d e);
+      limit_kept = c.perform_rule.ensures.limit_kept;
+      result = λ d e. result_stopped _ _ _ d _ _ _ _ (c.in_err-left.ensures.performed d e);
     }
 
-pub returns-in-err-whole-of : goal.returns-in-err-whole-of
-returns-in-err-whole-of g c =
-    let p = err_from_is_err_and c.from-residual-in-err-whole-of.result c.from-residual-in-err-whole-of.ensures.1 in
+pub returns-in_err-whole_of : goal.returns-in_err-whole_of
+returns-in_err-whole_of g c =
+    let p = err_from_is_err_and c.from_residual-in_err-whole_of.result c.from_residual-in_err-whole_of.ensures.1 in
     rw (p.1, p.2) record {
-      limit_kept = c.perform-rule.ensures.limit_kept;
-      result = λ d e. result_no_whole _ _ _ d _ _ _ c.in-ok-left.left c.in-Ok.value _ (c.in-ok-left.ensures.performed d e) c.in-Ok.ensures c.in-err-whole-of.ensures.whole;
+      limit_kept = c.perform_rule.ensures.limit_kept;
+      result = λ d e. result_no_whole _ _ _ d _ _ _ c.in_ok-left.left c.in-Ok.value _ (c.in_ok-left.ensures.performed d e) c.in-Ok.ensures c.in_err-whole_of.ensures.whole;
     }
 
-pub returns-in-ok-whole-of : goal.returns-in-ok-whole-of
-returns-in-ok-whole-of g c =
-    let f : SFits w32 c.in-ok-whole-of.field-0 = search rules in
+pub returns-in_ok-whole_of : goal.returns-in_ok-whole_of
+returns-in_ok-whole_of g c =
+    let f : SFits w32 c.in_ok-whole_of.field-0 = search rules in
     record {
-      limit_kept = c.perform-rule.ensures.limit_kept;
-      result = λ d e. result_whole _ _ _ d _ _ _ c.in-ok-left.left c.in-Ok.value c.in-ok-whole-of.field-0 _ (to_z-of_z f) (c.in-ok-left.ensures.performed d e) c.in-Ok.ensures c.in-ok-whole-of.ensures.whole;
+      limit_kept = c.perform_rule.ensures.limit_kept;
+      result = λ d e. result_whole _ _ _ d _ _ _ c.in_ok-left.left c.in-Ok.value c.in_ok-whole_of.field-0 _ (to_z-of_z f) (c.in_ok-left.ensures.performed d e) c.in-Ok.ensures c.in_ok-whole_of.ensures.whole;
     }
 
 pub returns-in-Err : goal.returns-in-Err
 returns-in-Err g c =
     record {
-      limit_kept = c.perform-rule.ensures.limit_kept;
-      result = λ d e. result_dead _ _ _ d _ _ _ c.in-ok-left.left _ (c.in-ok-left.ensures.performed d e) c.in-Err.ensures;
+      limit_kept = c.perform_rule.ensures.limit_kept;
+      result = λ d e. result_dead _ _ _ d _ _ _ c.in_ok-left.left _ (c.in_ok-left.ensures.performed d e) c.in-Err.ensures;
     }

@@ -2,10 +2,10 @@ use Rattle.std.proofs.Common.{rules}
 use Rattle.scope.proofs.Chains.{down_set, sight_enter, sight_older}
 use Rattle.scope.proofs.Scope.enter.Goals as goal
 
-pub invariant-of-self : goal.invariant-of-self
-invariant-of-self g c =
+pub invariant_of-self : goal.invariant_of-self
+invariant_of-self g c =
     let s = c.args.self.now in
-    (search rules, (search rules, (down_set s.records.now s.top _ c.if-i-self.false s.low s.down, tt)))
+    record { within = search rules; low = search rules; down = down_set s.records.now s.top _ c.if-i-self.false s.low s.down }
 
 pub returns : goal.returns
 returns g c =

@@ -2,18 +2,18 @@ use Rattle.std.proofs.Common.{arith, rules}
 use Rattle.table.proofs.Walks.{walk_stop, walk_on, walk_last}
 use Rattle.table.proofs.lengths.back.Goals as goal
 
-pub returns-in-err-from : goal.returns-in-err-from
-returns-in-err-from c =
-    rw c.from-residual.ensures
+pub returns-in_err-from : goal.returns-in_err-from
+returns-in_err-from c =
+    rw c.from_residual.ensures
     (record {
-      is = walk_stop c.args.nodes.now c.args.lens.now c.args.sort c.args.count c.loop.counter c.loop.from (search rules) c.in-err-from.ensures.is c.loop.invariant.0;
+      is = walk_stop c.args.nodes.now c.args.lens.now c.args.sort c.args.count c.loop.counter c.loop.from (search rules) c.in_err-from.ensures.is c.loop.invariant.0;
       low = tt;
     })
 
 pub loop-preserved : goal.loop-preserved
 loop-preserved c = (
-  walk_on c.args.nodes.now c.args.lens.now c.args.sort c.args.count c.loop.counter c.loop.from _ (search rules) c.in-ok-from.ensures.is c.loop.invariant.0,
-  omega (arith, c.in-ok-from.ensures.low),
+  walk_on c.args.nodes.now c.args.lens.now c.args.sort c.args.count c.loop.counter c.loop.from _ (search rules) c.in_ok-from.ensures.is c.loop.invariant.0,
+  omega (arith, c.in_ok-from.ensures.low),
 )
 
 pub returns : goal.returns

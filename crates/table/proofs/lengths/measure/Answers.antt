@@ -13,15 +13,15 @@ loop-at-init c = ([], refl, refl, λ k h. absurd (omega arith), refl)
 pub loop-at-preserved : goal.loop-at-preserved
 loop-at-preserved c =
     let v = c.loop-at.invariant in
-    again c.args.nodes.now c.loop-at.lens c.loop-at.at c.args.lens.now v.0 c.in-ok-len.len (search rules) (search rules)
-    v.1 v.2 v.3 v.4 c.in-ok-len.ensures.is c.in-ok-len.ensures.brief
+    again c.args.nodes.now c.loop-at.lens c.loop-at.at c.args.lens.now v.0 c.in_ok-len.len (search rules) (search rules)
+    v.1 v.2 v.3 v.4 c.in_ok-len.ensures.is c.in_ok-len.ensures.brief
 
-pub returns-in-err-len : goal.returns-in-err-len
-returns-in-err-len c =
+pub returns-in_err-len : goal.returns-in_err-len
+returns-in_err-len c =
     let v = c.loop-at.invariant in
-    let p = err_from_is_err_and c.from-residual.result c.from-residual.ensures.1 in
-    let w = refused c.args.nodes.now c.loop-at.lens c.loop-at.at (length c.args.lens.now) v.0 c.from-residual.result c.in-err-len.field-0.0
-    (p.1 ∙ ap Err p.2) (search rules) (search rules) (search rules) v.1 v.2 c.in-err-len.ensures.is in
+    let p = err_from_is_err_and c.from_residual.result c.from_residual.ensures.1 in
+    let w = refused c.args.nodes.now c.loop-at.lens c.loop-at.at (length c.args.lens.now) v.0 c.from_residual.result c.in_err-len.field-0.0
+    (p.1 ∙ ap Err p.2) (search rules) (search rules) (search rules) v.1 v.2 c.in_err-len.ensures.is in
     record { answer = w.0; stretches = w.1; rest_kept = v.4; short_list_kept = λ h. absurd (search rules) }
 
 pub returns : goal.returns

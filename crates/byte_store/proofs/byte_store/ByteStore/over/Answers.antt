@@ -2,8 +2,8 @@ use Rattle.std.proofs.Common.{sym, arith}
 use Rattle.language.specs.Counting.{live_none}
 use Rattle.byte_store.proofs.byte_store.ByteStore.over.Goals as goal
 
-pub invariant-of-result : goal.invariant-of-result
-invariant-of-result c = (
+pub invariant_of-result : goal.invariant_of-result
+invariant_of-result c = (
   sym (live_none _ c.clear.ensures.none_live),
   (
     c.clear.ensures.well_formed,

@@ -11,7 +11,7 @@ returns g c =
     let q = c.args.grading in
     let nodes = c.args.nodes.now in
     let is = chosen_is (check nodes (length c.args.lens.now) (length c.args.names.now) (length c.args.types.now)) c.check.result nodes c.check.new.place.nodes.now
-    c.check.ensures.answers c.check.ensures.fills (λ u h. h.0) (λ f h. ap (λ x. x.nodes.now) h ∙ c.built-in-rule.ensures.table) in
+    c.check.ensures.answers c.check.ensures.fills (λ u h. h.0) (λ f h. ap (λ x. x.nodes.now) h ∙ c.built_in-rule.ensures.table) in
     record {
       sound = c.grade_answer.ensures.sound;
       does = λ a e.

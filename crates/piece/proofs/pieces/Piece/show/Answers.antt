@@ -6,11 +6,11 @@ pub returns-then-point-self : goal.returns-then-point-self
 returns-then-point-self g c =
     show_refuses g.S.Store c.args.self.now c.requires c.args.point c.refusal.result c.refusal.ensures c.if-point-self.true
 
-pub shift-at-shift-requires : goal.shift-at-shift-requires
-shift-at-shift-requires g c = record { whole = holds_shift g.S.Store c.args.self.now c.requires c.args.point c.if-point-self.false }
+pub shift_at-shift-requires : goal.shift_at-shift-requires
+shift_at-shift-requires g c = record { whole = holds_shift g.S.Store c.args.self.now c.requires c.args.point c.if-point-self.false }
 
 pub returns : goal.returns
 returns g c =
-    let f : SFits w32 c.shift-at-shift.result = search rules in
+    let f : SFits w32 c.shift_at-shift.result = search rules in
     let t : SFits w32 c.args.self.now.step = search rules in
-    shows g.S.Store c.args.self.now c.requires c.args.point _ _ c.if-point-self.false (to_z-of_z f ∙ c.shift-at-shift.ensures.shift) (to_z-of_z t)
+    shows g.S.Store c.args.self.now c.requires c.args.point _ _ c.if-point-self.false (to_z-of_z f ∙ c.shift_at-shift.ensures.shift) (to_z-of_z t)

@@ -3,8 +3,8 @@ use Rattle.record_store.specs.Cells.{span, meant}
 use Rattle.record_store.proofs.Clearing.{sound_cleared, span_cleared, meant_cleared, rest_cleared}
 use Rattle.record_store.proofs.records.RecordStore.over.Goals as goal
 
-pub invariant-of-result : goal.invariant-of-result
-invariant-of-result c = search (rules, sound_cleared c.clear.new.cells c.args.cells.now c.counted-top.result c.clear.ensures c.counted-top.ensures)
+pub invariant_of-result : goal.invariant_of-result
+invariant_of-result c = search (rules, sound_cleared c.clear.new.cells c.args.cells.now c.counted-top.result c.clear.ensures c.counted-top.ensures)
 
 pub returns : goal.returns
 returns c =

@@ -8,8 +8,8 @@ use Rattle.record_store.proofs.records.RecordStoreStore.release.Goals as goal
 pub overflow-sub-self : goal.overflow-sub-self
 overflow-sub-self c = search (rules, counts_one)
 
-pub invariant-of-self : goal.invariant-of-self
-invariant-of-self c =
+pub invariant_of-self : goal.invariant_of-self
+invariant_of-self c =
     let s = c.args.self.now in
     search (rules, sound_released s.cells.now s.count s.top c.max-self.result c.args.location c.free.result c.free.ensures.cell c.max-self.ensures (sound s) (search rules) (search rules))
 
@@ -23,7 +23,7 @@ returns c =
     let lt : l < span cells = search rules in
     record {
       limit_kept = span_set cells l x;
-      answer = released c.found.result (meant cells l) c.found.ensures.value c.if-is-none.ensures;
+      answer = released c.found.result (meant cells l) c.found.ensures.value c.if-is_none.ensures;
       others_kept = meant_changed cells l x None e lt;
       cells_after_call = ap (set cells l) e;
       top_after = c.max-self.ensures;

@@ -9,8 +9,8 @@ use Rattle.record_store.proofs.records.RecordStoreStore.take.Goals as goal
 pub overflow-add-self : goal.overflow-add-self
 overflow-add-self c = search (rules, live_span c.args.self.now.cells.now)
 
-pub invariant-of-self : goal.invariant-of-self
-invariant-of-self c =
+pub invariant_of-self : goal.invariant_of-self
+invariant_of-self c =
     let s = c.args.self.now in
     search (rules, sound_taken s.cells.now s.count s.top c.in-Some.location c.holding.result c.args.value c.holding.ensures.cell (sound s) c.in-Some.ensures)
 
