@@ -1,4 +1,6 @@
 // Sample rules with the answers that are due, proved to be the defined ones.
+#![tactic(auto)]
+
 mod calls;
 mod entries;
 mod flow;

@@ -1,5 +1,7 @@
 // The names in sight, over a lent slice of records, for every type of entry: the latest entry of a name is the
 // one that counts, and an earlier position sees what it saw, whatever is entered later.
+#![tactic(auto)]
+
 ghost use Rattle.std.specs.Prelude.{◌≡◌, ℕ, ◌+◌, ◌≤◌, [], ◌∷◌, length, slice_set};
 ghost use Rattle.language.specs.Sight.{look};
 ghost use Rattle.scope.specs.Sight.{in_sight, Down};

@@ -1,5 +1,7 @@
 // A store of variables, known by its meaning alone: a limit that never changes, and a map from live
 // locations (0 to 65,535), never more of them than the limit, to values.
+#![tactic(auto)]
+
 ghost use Rattle.std.specs.Prelude.{◌≡◌, ℕ, ◌<◌, ◌≤◌, true, is_some, Some, None};
 ghost use Rattle.language.specs.declared.values.Value.{Value};
 ghost use Rattle.language.specs.Memory.{Memory, live};

@@ -1,4 +1,6 @@
 // The form of a table: which stretch of nodes each piece of a rule takes up.
+#![tactic(auto)]
+
 mod lengths;
 mod node;
 
