@@ -1,10 +1,9 @@
 -- What the store keeps true of its count and its window, after each call. Assumes nothing.
 use Rattle.std.proofs.Common.{◌≡◌, ℕ, ◌+◌, ◌-◌, ◌<◌, ◌≤◌, min, max, true, List, is_some, Some, None, Option, ap, ◌∙◌, subst, inl, inr, ⊎_elim, arith}
 use Rattle.std.proofs.lemmas.Bool.{cases_eq}
-use Rattle.language.specs.Counting.{put_here, put_apart}
 use Rattle.language.specs.declared.values.Value.{Value}
 use Rattle.language.specs.Memory.{Memory, put, one, live}
-use Rattle.language.specs.Counting.{below_all, below_gap, live_put, one_some}
+use Rattle.language.specs.Counting.{below_all, below_gap, live_put, one_some, put_here, put_apart}
 use Rattle.byte_store.specs.Layout.{cells, meaning, WellFormed}
 use Rattle.byte_store.specs.Free.{AllHeld, NextFree, FreeWithin, Chosen, Room}
 use Rattle.byte_store.specs.Laws.{live_within, live_counted}
@@ -49,7 +48,7 @@ room xs start a b (Some l) h =
 
 -- what the store keeps true of its bytes, its count and its window
 abbrev pub Kept : List ℕ → (count a b : ℕ) → Type 0
-Kept xs count a b = (count ≡ live (meaning xs)) × (WellFormed xs × (FreeWithin (cells xs) (meaning xs) a b × Unit {0}))
+Kept xs count a b = record { counted : count ≡ live (meaning xs); well_formed : WellFormed xs; free_within : FreeWithin (cells xs) (meaning xs) a b }
 
 -- after a change of the cell l
 module _ (xs ys : List ℕ) (l count : ℕ) (same : cells ys ≡ cells xs) (formed : WellFormed ys) (counted : count ≡ live (meaning xs)) where
@@ -57,12 +56,24 @@ module _ (xs ys : List ℕ) (l count : ℕ) (same : cells ys ≡ cells xs) (form
   kept_taken v means r is start a b h =
       let some : Chosen (cells xs) (meaning xs) start a b (Some l) = subst (Chosen (cells xs) (meaning xs) start a b) is h in
       let free = next_within (cells xs) (meaning xs) start l some.0 in
-      (omega (arith, counted, ap live means, live_put (meaning xs) l (Some v) (omega (arith, free.0)), ap one free.1), (formed, (rw (same, means) (some.1 v), tt)))
+      record {
+        counted = omega (arith, counted, ap live means, live_put (meaning xs) l (Some v) (omega (arith, free.0)), ap one free.1);
+        well_formed = formed;
+        free_within = rw (same, means) (some.1 v);
+      }
 
   pub kept_written : (v : Value) → meaning ys ≡ put (meaning xs) l (Some v) → is_some (meaning xs l) ≡ true → (a b : ℕ) → FreeWithin (cells xs) (meaning xs) a b → Kept ys count a b
   kept_written v means held a b h =
-      (omega (arith, counted, ap live means, live_put (meaning xs) l (Some v) (omega (arith, live_within xs l held)), one_some (meaning xs l) held), (formed, (rw (same, means) (within_put (cells xs) (meaning xs) l v a b h), tt)))
+      record {
+        counted = omega (arith, counted, ap live means, live_put (meaning xs) l (Some v) (omega (arith, live_within xs l held)), one_some (meaning xs l) held);
+        well_formed = formed;
+        free_within = rw (same, means) (within_put (cells xs) (meaning xs) l v a b h);
+      }
 
   pub kept_released : meaning ys ≡ put (meaning xs) l None → is_some (meaning xs l) ≡ true → (a b a' b' : ℕ) → a' ≡ min a l → b' ≡ max b (l + 1) → FreeWithin (cells xs) (meaning xs) a b → Kept ys (count - 1) a' b'
   kept_released means held a b a' b' ea eb h =
-      (omega (arith, counted, ap live means, live_put (meaning xs) l None (omega (arith, live_within xs l held)), one_some (meaning xs l) held), (formed, (rw (same, means, ea, eb) (within_freed (cells xs) (meaning xs) l a b (live_within xs l held) h), tt)))
+      record {
+        counted = omega (arith, counted, ap live means, live_put (meaning xs) l None (omega (arith, live_within xs l held)), one_some (meaning xs l) held);
+        well_formed = formed;
+        free_within = rw (same, means, ea, eb) (within_freed (cells xs) (meaning xs) l a b (live_within xs l held) h);
+      }

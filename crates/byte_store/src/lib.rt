@@ -1,4 +1,6 @@
 // A store over lent bytes, five to a cell.
+#![tactic(auto)]
+
 mod byte_store;
 mod cells;
 mod format;

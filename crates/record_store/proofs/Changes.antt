@@ -3,13 +3,12 @@ use Rattle.std.proofs.Common.{◌≡◌, ℕ, ◌+◌, ◌-◌, ◌<◌, ◌≤�
 use mathlib.Core.Path.{fun_ext}
 use Rattle.std.proofs.lemmas.List.{length-set, get_or-set_same, get_or-set_other}
 use Rattle.std.proofs.lemmas.Bool.{cases_eq, false≢true}
-use Rattle.language.specs.Counting.{put_here, put_apart}
 use Rattle.language.specs.declared.values.Value.{Value}
 use Rattle.language.specs.declared.values.Value.TheVariants.{Truth as truth_value, Whole as whole_value}
 use Rattle.language.specs.Values.{sort, alike}
 use Rattle.store.specs.Calls.{release_answer, write_answer}
 use Rattle.language.specs.Memory.{put, live, one}
-use Rattle.language.specs.Counting.{one_some, live_put, below_all, below_gap}
+use Rattle.language.specs.Counting.{one_some, live_put, below_all, below_gap, put_here, put_apart}
 use Rattle.record_store.specs.declared.cells.Cell.{Cell}
 use Rattle.record_store.specs.Cells.{cell_of, value_in, span, cell_at, meant, Formed, HeldFrom, HighestFree}
 use Rattle.record_store.specs.Bounds.{live_is}

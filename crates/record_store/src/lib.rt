@@ -1,4 +1,6 @@
 // A store over a lent slice of records, one for each location.
+#![tactic(auto)]
+
 mod cells;
 mod records;
 

@@ -457,8 +457,8 @@ block-returns-in_err-need t c =
       kept = kept_err _ _ _ _ b.1;
     }
 
-pub block-overflow-add-result : goal.block-overflow-add-result
-block-overflow-add-result t c =
+pub block-overflow_add-result : goal.block-overflow_add-result
+block-overflow_add-result t c =
     let s = c.requires.some in
     omega (
       arith,

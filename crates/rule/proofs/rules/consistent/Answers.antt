@@ -26,8 +26,8 @@ returns-in_err-need c =
           (outset_looks _ c.new-scope.result c.enter.new.scope c.enter-2.new.scope c.new-scope.ensures.nothing_in_sight c.enter.ensures.sight c.enter-2.ensures.sight) _ c.in_err-need.ensures.says;
     }
 
-pub overflow-add-result : goal.overflow-add-result
-overflow-add-result c =
+pub overflow_add-result : goal.overflow_add-result
+overflow_add-result c =
     omega (
       arith,
       c.requires.most,

@@ -8,8 +8,8 @@ use Rattle.run.proofs.blocks.list_procedures.Goals as goal
 pub loop-left-init : goal.loop-left-init
 loop-left-init c = (c.requires.lens, c.requires.procedures, noted_none _ _ _ _ _)
 
-pub overflow-sub-at : goal.overflow-sub-at
-overflow-sub-at c = (procs_one c.args.table.nodes.now c.args.table.lens.now c.loop-left.end c.loop-left.left (omega arith) c.loop-left.invariant.1).0
+pub overflow_sub-at : goal.overflow_sub-at
+overflow_sub-at c = (procs_one c.args.table.nodes.now c.args.table.lens.now c.loop-left.end c.loop-left.left (omega arith) c.loop-left.invariant.1).0
 
 pub start-end-requires : goal.start-end-requires
 start-end-requires c =

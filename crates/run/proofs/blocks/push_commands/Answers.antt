@@ -9,8 +9,8 @@ loop-init c =
     let z : c.args.count - 0 ≡ c.args.count = omega arith in
     (omega arith, c.requires.lens, rw z refl, rw z c.requires.commands, rw z refl)
 
-pub overflow-sub-at : goal.overflow-sub-at
-overflow-sub-at c = (coms_one c.args.table.nodes.now c.args.table.lens.now 0 c.loop.end c.args.count c.loop.counter (omega arith) c.loop.invariant.3).0
+pub overflow_sub-at : goal.overflow_sub-at
+overflow_sub-at c = (coms_one c.args.table.nodes.now c.args.table.lens.now 0 c.loop.end c.args.count c.loop.counter (omega arith) c.loop.invariant.3).0
 
 pub push_frame-depth-requires : goal.push_frame-depth-requires
 push_frame-depth-requires c = record { room = omega (arith, c.loop.invariant.0, c.requires.room) }

@@ -24,8 +24,8 @@ assign-requires g c =
     let w = of_assign _ _ c.requires.ready.shaped _ n.at c.requires.kind in
     record { inside = omega (arith, n.at); shaped = c.requires.ready.shaped; expression = w.1; procedures = n.procedures; room = omega (arith, n.deep, w.2) }
 
-pub overflow-sub-frame : goal.overflow-sub-frame
-overflow-sub-frame g c =
+pub overflow_sub-frame : goal.overflow_sub-frame
+overflow_sub-frame g c =
     let n = running _ _ _ _ _ _ c.requires.ready c.requires.runs in
     (of_assign _ _ c.requires.ready.shaped _ n.at c.requires.kind).0
 

@@ -73,8 +73,8 @@ returns-in_err-bind_arguments g c =
           (call_no_args _ _ _ _ _ _ n.within n.linked n.ok_below n.position _ n.at c.requires.kind _ _ _ c.in_ok-units.ensures.ticked _ e));
     }
 
-pub overflow-sub-body : goal.overflow-sub-body
-overflow-sub-body g c =
+pub overflow_sub-body : goal.overflow_sub-body
+overflow_sub-body g c =
     let n = running _ _ _ _ _ _ c.requires.ready c.requires.runs in
     let y = procedure_at _ _ _ _ _ c.args.frame _ _ _ c.requires.ready.shaped n (procedure_found _ _ _ (rw (c.requires.ready.position, ap (λ (x : Node). x.name) c.node-node.ensures.node) at c.in_ok-at.ensures.procedure)) in
     y.1

@@ -13,8 +13,8 @@ returns-in_err-units g c =
     let e = c.in_err-units.ensures.ticked in
     record { stepped = rw (p.1, p.2) (stopped_here _ _ _ _ _ _ _ c.requires.ready c.requires.runs _ _ _ refl _ (out_of_units _ _ _ _ _ _ _ _ n.at n.command e.0 e.1)) }
 
-pub overflow-sub-then : goal.overflow-sub-then
-overflow-sub-then g c =
+pub overflow_sub-then : goal.overflow_sub-then
+overflow_sub-then g c =
     let n = running _ _ _ _ _ _ c.requires.ready c.requires.runs in
     rw c.start-then.ensures.start (of_if _ _ c.requires.ready.shaped _ n.at c.requires.kind).1
 
@@ -23,8 +23,8 @@ start-test-requires g c =
     let n = running _ _ _ _ _ _ c.requires.ready c.requires.runs in
     record { inside = omega (arith, c.start-then.ensures.start, c.requires.ready.shaped.size, (of_if _ _ c.requires.ready.shaped _ n.at c.requires.kind).2) }
 
-pub overflow-sub-test : goal.overflow-sub-test
-overflow-sub-test g c =
+pub overflow_sub-test : goal.overflow_sub-test
+overflow_sub-test g c =
     let n = running _ _ _ _ _ _ c.requires.ready c.requires.runs in
     rw (c.start-test.ensures.start, c.start-then.ensures.start) (of_if _ _ c.requires.ready.shaped _ n.at c.requires.kind).3
 

@@ -23,8 +23,8 @@ run_table-requires g c =
       levels = omega (arith, q.2);
     }
 
-pub overflow-sub-result : goal.overflow-sub-result
-overflow-sub-result g c =
+pub overflow_sub-result : goal.overflow_sub-result
+overflow_sub-result g c =
     let within = units_within _ _ _ _ _ _ _ _ _ _ (g.S.Store.within c.args.store.now) (accepted_same c.nodes-nodes.ensures.nodes c.nodes-nodes.ensures.accepted) _ c.in_ok-ask.ensures.answer
     _ _ (ran_same c.nodes-nodes.ensures.nodes (to_z-of_z c.ranges.step) c.in-Ok.ensures.ran) in
     omega (arith, within)

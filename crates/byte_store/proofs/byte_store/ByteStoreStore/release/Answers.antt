@@ -2,8 +2,8 @@ use Rattle.std.proofs.Common.{is_some, sym, ap, arith}
 use Rattle.byte_store.proofs.Kept.{live_some, kept_released}
 use Rattle.byte_store.proofs.byte_store.ByteStoreStore.release.Goals as goal
 
-pub overflow-sub-self : goal.overflow-sub-self
-overflow-sub-self c =
+pub overflow_sub-self : goal.overflow_sub-self
+overflow_sub-self c =
     let self = c.args.self.now in
     omega (arith, self.counted, live_some self.bytes.now c.args.location (ap is_some (sym c.in-Some.ensures.value)))
 

@@ -5,8 +5,8 @@ use Rattle.record_store.proofs.Soundness.{sound}
 use Rattle.record_store.proofs.Changes.{sound_released, released, span_set, meant_changed, counts_one}
 use Rattle.record_store.proofs.records.RecordStoreStore.release.Goals as goal
 
-pub overflow-sub-self : goal.overflow-sub-self
-overflow-sub-self c = search (rules, counts_one)
+pub overflow_sub-self : goal.overflow_sub-self
+overflow_sub-self c = search (rules, counts_one)
 
 pub invariant_of-self : goal.invariant_of-self
 invariant_of-self c =
@@ -25,7 +25,7 @@ returns c =
       limit_kept = span_set cells l x;
       answer = released c.found.result (meant cells l) c.found.ensures.value c.if-is_none.ensures;
       others_kept = meant_changed cells l x None e lt;
-      cells_after_call = ap (set cells l) e;
+      cells_after = ap (set cells l) e;
       top_after = c.max-self.ensures;
       rest_kept = drop-set-lt 65536 cells l x (omega arith);
       same_slice = refl;

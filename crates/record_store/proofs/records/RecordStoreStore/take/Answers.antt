@@ -6,8 +6,8 @@ use Rattle.record_store.proofs.Soundness.{meant_within, sound}
 use Rattle.record_store.proofs.Changes.{sound_taken, span_set, meant_changed, live_gap, live_full}
 use Rattle.record_store.proofs.records.RecordStoreStore.take.Goals as goal
 
-pub overflow-add-self : goal.overflow-add-self
-overflow-add-self c = search (rules, live_span c.args.self.now.cells.now)
+pub overflow_add-self : goal.overflow_add-self
+overflow_add-self c = search (rules, live_span c.args.self.now.cells.now)
 
 pub invariant_of-self : goal.invariant_of-self
 invariant_of-self c =
@@ -27,7 +27,7 @@ returns-in-Some c =
       limit_kept = span_set cells l x;
       taken = (omega (arith, h.0), free, live_gap cells l h.0 free, meant_changed cells l x (Some c.args.value) e h.0);
       highest_free = h;
-      cells_after_call = ap (set cells l) e;
+      cells_after = ap (set cells l) e;
       top_after = refl;
       rest_kept = drop-set-lt 65536 cells l x (omega (arith, h.0));
       same_slice = refl;
