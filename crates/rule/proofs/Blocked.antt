@@ -1,5 +1,5 @@
 -- A block, from what the calls say.
-use Rattle.std.proofs.Common.{◌≡◌, ℕ, ◌+◌, ◌-◌, ◌≤◌, List, [], length, Ok, Err, sym, refl, ap, ◌∙◌, arith}
+use Rattle.std.proofs.Common.{◌≡◌, ℕ, ◌+◌, ◌≤◌, List, [], length, Ok, Err, sym, refl, ap, ◌∙◌, arith}
 use Rattle.language.specs.declared.tables.Node.{Node}
 use Rattle.language.specs.declared.faults.Fault.{Fault}
 use Rattle.language.specs.Tree.{Decl, Procs, Coms, block}

@@ -1,4 +1,6 @@
 // The check of a table: what it is as a rule, its names and types, and how many locations a run of it needs.
+#![tactic(auto)]
+
 mod calls;
 mod commands;
 mod declarations;

@@ -24,7 +24,7 @@ command-command-requires-in-If t c =
     let s = c.requires.some in
     let w = c.in-If.ensures.shows s.c s.is in
     let falls : 5 * long c.in-If.no + 1 < t = omega (arith, w.sizes, c.decreases) in
-    (falls, (pass_com s.seen s.roomy s.lies c.in_ok-n.ensures.kept c.args.scope.now.low w.no w.no_in, search rules))
+    (falls, (pass_com s.seen s.roomy s.lies c.in_ok-n-in-If.ensures.kept c.args.scope.now.low w.no w.no_in, search rules))
 
 pub command-command-requires-in-While : goal.command-command-requires-in-While
 command-command-requires-in-While t c =
@@ -101,83 +101,83 @@ command-returns-in-Call t c =
       kept = kept_any _ c.args.scope.now;
     }
 
-pub command-returns-in_err-t : goal.command-returns-in_err-t
-command-returns-in_err-t t c =
+pub command-returns-in_err-t-in-If : goal.command-returns-in_err-t-in-If
+command-returns-in_err-t-in-If t c =
     let b = err_from_is_err_and c.from_residual.result c.from_residual.ensures.1 in
     record {
       says = λ x ρ is lk.
-          b.1 ∙ ap Err b.2 ∙ if_test_bad c.args.table.now (c.in-If.ensures.shows x is) (sight c.args.scope.now) ρ lk _ c.in_err-t.ensures.says;
+          b.1 ∙ ap Err b.2 ∙ if_test_bad c.args.table.now (c.in-If.ensures.shows x is) (sight c.args.scope.now) ρ lk _ c.in_err-t-in-If.ensures.says;
       kept = kept_err _ _ _ _ b.1;
     }
 
-pub command-returns-in_err-n : goal.command-returns-in_err-n
-command-returns-in_err-n t c =
-    let b = err_from_is_err_and c.from_residual-in_err-n.result c.from_residual-in_err-n.ensures.1 in
+pub command-returns-in_err-n-in-If : goal.command-returns-in_err-n-in-If
+command-returns-in_err-n-in-If t c =
+    let b = err_from_is_err_and c.from_residual-in_err-n-in-If.result c.from_residual-in_err-n-in-If.ensures.1 in
     record {
       says = λ x ρ is lk.
-          b.1 ∙ ap Err b.2 ∙ if_yes_bad c.args.table.now (c.in-If.ensures.shows x is) (sight c.args.scope.now) ρ lk _ c.in_ok-t.ensures.says _ c.in_err-n.ensures.says;
+          b.1 ∙ ap Err b.2 ∙ if_yes_bad c.args.table.now (c.in-If.ensures.shows x is) (sight c.args.scope.now) ρ lk _ c.in_ok-t-in-If.ensures.says _ c.in_err-n-in-If.ensures.says;
       kept = kept_err _ _ _ _ b.1;
     }
 
-pub command-returns-in_err-m : goal.command-returns-in_err-m
-command-returns-in_err-m t c =
-    let b = err_from_is_err_and c.from_residual-in_err-m.result c.from_residual-in_err-m.ensures.1 in
+pub command-returns-in_err-m-in-If : goal.command-returns-in_err-m-in-If
+command-returns-in_err-m-in-If t c =
+    let b = err_from_is_err_and c.from_residual-in_err-m-in-If.result c.from_residual-in_err-m-in-If.ensures.1 in
     record {
       says = λ x ρ is lk.
-          b.1 ∙ ap Err b.2 ∙ if_no_bad c.args.table.now (c.in-If.ensures.shows x is) (sight c.args.scope.now) ρ lk _ c.in_ok-t.ensures.says _ (sight c.command.new.scope) c.in_ok-n.ensures.says (kept_looks ρ c.in_ok-n.ensures.kept c.args.scope.now.low lk) _ c.in_err-m.ensures.says;
+          b.1 ∙ ap Err b.2 ∙ if_no_bad c.args.table.now (c.in-If.ensures.shows x is) (sight c.args.scope.now) ρ lk _ c.in_ok-t-in-If.ensures.says _ (sight c.command.new.scope) c.in_ok-n-in-If.ensures.says (kept_looks ρ c.in_ok-n-in-If.ensures.kept c.args.scope.now.low lk) _ c.in_err-m-in-If.ensures.says;
       kept = kept_err _ _ _ _ b.1;
     }
 
-pub command-returns-in_err-agree : goal.command-returns-in_err-agree
-command-returns-in_err-agree t c =
-    let b = err_from_is_err_and c.from_residual-in_err-agree.result c.from_residual-in_err-agree.ensures.1 in
+pub command-returns-in_err-agree-in-If : goal.command-returns-in_err-agree-in-If
+command-returns-in_err-agree-in-If t c =
+    let b = err_from_is_err_and c.from_residual-in_err-agree-in-If.result c.from_residual-in_err-agree-in-If.ensures.1 in
     record {
       says = λ x ρ is lk.
-          b.1 ∙ ap Err b.2 ∙ if_types_bad c.args.table.now (c.in-If.ensures.shows x is) (sight c.args.scope.now) ρ lk _ c.in_ok-t.ensures.says _ (sight c.command.new.scope) c.in_ok-n.ensures.says (kept_looks ρ c.in_ok-n.ensures.kept c.args.scope.now.low lk) _ _ c.in_ok-m.ensures.says c.place-in-If.ensures.number _ c.in_err-agree.ensures.asked;
+          b.1 ∙ ap Err b.2 ∙ if_types_bad c.args.table.now (c.in-If.ensures.shows x is) (sight c.args.scope.now) ρ lk _ c.in_ok-t-in-If.ensures.says _ (sight c.command.new.scope) c.in_ok-n-in-If.ensures.says (kept_looks ρ c.in_ok-n-in-If.ensures.kept c.args.scope.now.low lk) _ _ c.in_ok-m-in-If.ensures.says c.place-in-If.ensures.number _ c.in_err-agree-in-If.ensures.asked;
       kept = kept_err _ _ _ _ b.1;
     }
 
-pub command-returns-in_ok-agree : goal.command-returns-in_ok-agree
-command-returns-in_ok-agree t c =
+pub command-returns-in_ok-agree-in-If : goal.command-returns-in_ok-agree-in-If
+command-returns-in_ok-agree-in-If t c =
     record {
       says = λ x ρ is lk.
-          if_well c.args.table.now (c.in-If.ensures.shows x is) (sight c.args.scope.now) ρ lk _ c.in_ok-t.ensures.says _ (sight c.command.new.scope) c.in_ok-n.ensures.says (kept_looks ρ c.in_ok-n.ensures.kept c.args.scope.now.low lk) _ _ c.in_ok-m.ensures.says c.place-in-If.ensures.number _ c.in_ok-agree.ensures.asked c.larger.ensures.larger;
-      kept = kept_then c.in_ok-n.ensures.kept c.in_ok-m.ensures.kept;
+          if_well c.args.table.now (c.in-If.ensures.shows x is) (sight c.args.scope.now) ρ lk _ c.in_ok-t-in-If.ensures.says _ (sight c.command.new.scope) c.in_ok-n-in-If.ensures.says (kept_looks ρ c.in_ok-n-in-If.ensures.kept c.args.scope.now.low lk) _ _ c.in_ok-m-in-If.ensures.says c.place-in-If.ensures.number _ c.in_ok-agree-in-If.ensures.asked c.larger.ensures.larger;
+      kept = kept_then c.in_ok-n-in-If.ensures.kept c.in_ok-m-in-If.ensures.kept;
     }
 
-pub command-returns-in_err-t-2 : goal.command-returns-in_err-t-2
-command-returns-in_err-t-2 t c =
-    let b = err_from_is_err_and c.from_residual-in_err-t-2.result c.from_residual-in_err-t-2.ensures.1 in
+pub command-returns-in_err-t-in-While : goal.command-returns-in_err-t-in-While
+command-returns-in_err-t-in-While t c =
+    let b = err_from_is_err_and c.from_residual-in_err-t-in-While.result c.from_residual-in_err-t-in-While.ensures.1 in
     record {
       says = λ x ρ is lk.
-          b.1 ∙ ap Err b.2 ∙ while_test_bad c.args.table.now (c.in-While.ensures.shows x is) (sight c.args.scope.now) ρ lk _ c.in_err-t-2.ensures.says;
+          b.1 ∙ ap Err b.2 ∙ while_test_bad c.args.table.now (c.in-While.ensures.shows x is) (sight c.args.scope.now) ρ lk _ c.in_err-t-in-While.ensures.says;
       kept = kept_err _ _ _ _ b.1;
     }
 
-pub command-returns-in_err-n-2 : goal.command-returns-in_err-n-2
-command-returns-in_err-n-2 t c =
-    let b = err_from_is_err_and c.from_residual-in_err-n-2.result c.from_residual-in_err-n-2.ensures.1 in
+pub command-returns-in_err-n-in-While : goal.command-returns-in_err-n-in-While
+command-returns-in_err-n-in-While t c =
+    let b = err_from_is_err_and c.from_residual-in_err-n-in-While.result c.from_residual-in_err-n-in-While.ensures.1 in
     record {
       says = λ x ρ is lk.
-          b.1 ∙ ap Err b.2 ∙ while_body_bad c.args.table.now (c.in-While.ensures.shows x is) (sight c.args.scope.now) ρ lk _ c.in_ok-t-2.ensures.says _ c.in_err-n-2.ensures.says;
+          b.1 ∙ ap Err b.2 ∙ while_body_bad c.args.table.now (c.in-While.ensures.shows x is) (sight c.args.scope.now) ρ lk _ c.in_ok-t-in-While.ensures.says _ c.in_err-n-in-While.ensures.says;
       kept = kept_err _ _ _ _ b.1;
     }
 
-pub command-returns-in_err-agree-2 : goal.command-returns-in_err-agree-2
-command-returns-in_err-agree-2 t c =
-    let b = err_from_is_err_and c.from_residual-in_err-agree-2.result c.from_residual-in_err-agree-2.ensures.1 in
+pub command-returns-in_err-agree-in-While : goal.command-returns-in_err-agree-in-While
+command-returns-in_err-agree-in-While t c =
+    let b = err_from_is_err_and c.from_residual-in_err-agree-in-While.result c.from_residual-in_err-agree-in-While.ensures.1 in
     record {
       says = λ x ρ is lk.
-          b.1 ∙ ap Err b.2 ∙ while_types_bad c.args.table.now (c.in-While.ensures.shows x is) (sight c.args.scope.now) ρ lk _ c.in_ok-t-2.ensures.says _ _ c.in_ok-n-2.ensures.says c.place-in-While.ensures.number _ c.in_err-agree-2.ensures.asked;
+          b.1 ∙ ap Err b.2 ∙ while_types_bad c.args.table.now (c.in-While.ensures.shows x is) (sight c.args.scope.now) ρ lk _ c.in_ok-t-in-While.ensures.says _ _ c.in_ok-n-in-While.ensures.says c.place-in-While.ensures.number _ c.in_err-agree-in-While.ensures.asked;
       kept = kept_err _ _ _ _ b.1;
     }
 
-pub command-returns-in_ok-agree-2 : goal.command-returns-in_ok-agree-2
-command-returns-in_ok-agree-2 t c =
+pub command-returns-in_ok-agree-in-While : goal.command-returns-in_ok-agree-in-While
+command-returns-in_ok-agree-in-While t c =
     record {
       says = λ x ρ is lk.
-          while_well c.args.table.now (c.in-While.ensures.shows x is) (sight c.args.scope.now) ρ lk _ c.in_ok-t-2.ensures.says _ _ c.in_ok-n-2.ensures.says c.place-in-While.ensures.number c.in_ok-agree-2.ensures.asked;
-      kept = c.in_ok-n-2.ensures.kept;
+          while_well c.args.table.now (c.in-While.ensures.shows x is) (sight c.args.scope.now) ρ lk _ c.in_ok-t-in-While.ensures.says _ _ c.in_ok-n-in-While.ensures.says c.place-in-While.ensures.number c.in_ok-agree-in-While.ensures.asked;
+      kept = c.in_ok-n-in-While.ensures.kept;
     }
 
 -- ---- commands
@@ -211,7 +211,7 @@ commands-command-requires t c =
     let s = c.requires.some in
     let w = (coms_split c.args.part s.cs (filled c.is_empty.result _ c.is_empty.ensures c.if-is_empty.false) s.is).parts _ _ c.split_last.ensures.lasts in
     let falls : 5 * long c.split_last.result.1 + 1 < t = omega (arith, w.sizes, c.decreases) in
-    (falls, (pass_com s.seen s.roomy s.lies c.in_ok-n.ensures.kept c.args.scope.now.low w.back w.back-in, search rules))
+    (falls, (pass_com s.seen s.roomy s.lies c.in_ok-n.ensures.kept c.args.scope.now.low w.back w.back_in, search rules))
 
 pub commands-returns-in_err-m : goal.commands-returns-in_err-m
 commands-returns-in_err-m t c =
