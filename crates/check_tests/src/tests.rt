@@ -141,6 +141,40 @@ fn each_work_list_is_two_records_longer(rt: HostRuntime) -> Result<(), Fail> {
     Ok(())
 }
 
+#[test]
+fn the_deepest_tables_are_accepted(rt: HostRuntime) -> Result<(), Fail> {
+    let mut work = work_lists(rt.alloc(), LONGEST)?;
+    let mut place = Rule::built_in();
+    let mut blocks = filled(rt.alloc(), NULL, 1)?;
+    for _ in 0..4095 {
+        blocks.push(Node {
+            kind: 14,
+            c: 1,
+            ..NULL
+        })?;
+    }
+    assert!(rt; work.check(&mut place, &blocks) == Ok(()));
+    let mut sums = filled(
+        rt.alloc(),
+        Node {
+            kind: 1,
+            value: 1,
+            ..NULL
+        },
+        2048,
+    )?;
+    for _ in 0..2047 {
+        sums.push(Node { kind: 3, ..NULL })?;
+    }
+    sums.push(Node {
+        kind: 7,
+        name: 1,
+        ..NULL
+    })?;
+    assert!(rt; work.check(&mut place, &sums) == Ok(()));
+    Ok(())
+}
+
 // Levels one in the other: the nodes that begin each, what stands in the middle, and the nodes that end each.
 fn nested(
     heap: Global,
