@@ -1,4 +1,6 @@
 // Checks every sample rule; then holds one size's shifts of a small piece on each store, and shows what a store refuses.
+#![tactic(auto)]
+
 use anyhow::anyhow;
 use byte_store::ByteStore;
 use language::{Number, Scalar, Value};

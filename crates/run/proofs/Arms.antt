@@ -1,22 +1,21 @@
 -- What each step of the newest frame's command comes to.
-use Rattle.std.proofs.Common.{◌≡◌, ℕ, zero, suc, ◌+◌, ◌-◌, ◌<◌, ◌≤◌, Bool, true, false, cond, ◌⊎◌, List, [], ◌∷◌, ◌++◌, length, Some, None, Ok, Err, Option, Result, sym, refl, ap, ◌∙◌, subst, ap₂, inl, inr, arith}
-use mathlib.Core.Option.{Option as Found, some, none}
+use Rattle.std.proofs.Common.{◌≡◌, ℕ, suc, ◌+◌, ◌-◌, ◌<◌, ◌≤◌, Bool, true, false, List, ◌∷◌, length, Some, None, Ok, Err, Option, Result, sym, refl, ◌∙◌, subst, ap₂, inl, inr, arith}
 use Rattle.language.specs.declared.tables.Node.{Node}
 use Rattle.language.specs.declared.tables.Kind.{Kind}
 use Rattle.language.specs.declared.tables.Kind.TheVariants.{Truth, Whole, Read, Plus, Less, Or, Null, Assign, If, While, Call, Argument, Decl, Proc, Block}
 use Rattle.language.specs.declared.values.Stop.{Stop}
-use Rattle.language.specs.declared.values.Stop.TheVariants.{Unit as UnitStop, Stuck}
+use Rattle.language.specs.declared.values.Stop.TheVariants.{Unit as UnitStop}
 use Rattle.language.specs.Memory.{Memory}
-use Rattle.language.specs.Tree.{Expr, Com, null, assign, if, while, call, block}
+use Rattle.language.specs.Tree.{Expr, Com, while}
 use Rattle.language.specs.Runs.{Env, Out, ended, stopped, Step, give, ◌>>=◌, test, take_all, does, Loop, no_unit, no_test, leaves, no_body, again}
 use Rattle.table.specs.Stretches.{node_at}
 use Rattle.table.specs.Walk.{start_at}
 use Rattle.run.specs.declared.levels.Frame.{Frame}
 use Rattle.run.specs.declared.levels.State.{State}
-use Rattle.run.specs.declared.levels.State.TheVariants.{Run, End}
+use Rattle.run.specs.declared.levels.State.TheVariants.{Run}
 use Rattle.run.specs.Names.{Records, SameBelow, weights}
 use Rattle.run.specs.Shapes.{kind_at, ComKind, Shaped, Forest, Trees, decls_at}
-use Rattle.run.specs.Machine.{outcome, env_at, frame_after, all_after, under_way, run_frame, Good, GoodFrame, FrameOk, RunOk, Went, Tested, Assigned}
+use Rattle.run.specs.Machine.{outcome, env_at, frame_after, all_after, run_frame, Good, GoodFrame, FrameOk, RunOk, Went, Tested, Assigned}
 use Rattle.run.proofs.Steps.{give_first}
 use Rattle.run.proofs.Goods.{good_weaker, good_same}
 use Rattle.run.proofs.Frames.{all_mono, all_same}

@@ -1,5 +1,5 @@
 -- What a test and an assignment come to.
-use Rattle.std.proofs.Common.{◌≡◌, ℕ, ◌+◌, ◌-◌, ◌<◌, ◌≤◌, Bool, true, false, cond, ◌⊎◌, List, [], length, Some, None, Ok, Err, Option, Result, sym, refl, ap, ◌∙◌, inl, inr, arith}
+use Rattle.std.proofs.Common.{◌≡◌, ℕ, ◌+◌, ◌-◌, ◌<◌, ◌≤◌, Bool, true, false, cond, List, [], length, Some, None, Ok, Err, Option, Result, refl, inl, inr, arith}
 use Rattle.language.specs.declared.tables.Node.{Node}
 use Rattle.language.specs.declared.values.Value.{Value}
 use Rattle.language.specs.declared.values.Stop.{Stop}
@@ -7,7 +7,7 @@ use Rattle.language.specs.declared.values.Stop.TheVariants.{Stuck}
 use Rattle.language.specs.Memory.{Memory, put}
 use Rattle.language.specs.Values.{sort, alike}
 use Rattle.language.specs.Sight.{find}
-use Rattle.language.specs.Runs.{Env, ended, stopped, value, store, located}
+use Rattle.language.specs.Runs.{ended, stopped, value, store, located}
 use Rattle.store.specs.Calls.{write_answer}
 use Rattle.store.specs.declared.WriteRefusal.{WriteRefusal}
 use Rattle.store.specs.declared.WriteRefusal.TheVariants.{Kind as OtherKind}

@@ -1,6 +1,5 @@
 -- What a call comes to.
-use Rattle.std.proofs.Common.{◌≡◌, ℕ, zero, suc, ◌+◌, ◌-◌, ◌<◌, ◌≤◌, Bool, true, false, cond, eqb, ◌⊎◌, List, [], ◌∷◌, ◌++◌, length, Some, None, Ok, Err, Option, Result, sym, refl, ap, ◌∙◌, subst, inl, inr, arith, eq-eqb, ne_eqb}
-use mathlib.Core.Option.{Option as Found, some, none}
+use Rattle.std.proofs.Common.{◌≡◌, ℕ, suc, ◌+◌, ◌-◌, ◌<◌, ◌≤◌, true, false, eqb, List, [], ◌∷◌, length, Some, None, Ok, Err, Option, Result, sym, refl, ap, ◌∙◌, subst, inl, inr, arith, eq-eqb, ne_eqb}
 use Rattle.language.specs.declared.tables.Node.{Node}
 use Rattle.language.specs.declared.tables.Kind.TheVariants.{Call}
 use Rattle.language.specs.declared.values.Stop.{Stop}
@@ -8,7 +7,7 @@ use Rattle.language.specs.declared.values.Stop.TheVariants.{Stuck}
 use Rattle.language.specs.Memory.{Memory}
 use Rattle.language.specs.Tree.{Arg, call}
 use Rattle.language.specs.Sight.{placed, find}
-use Rattle.language.specs.Runs.{Env, Out, ended, stopped, Step, ◌>>=◌, does, locations, invoke}
+use Rattle.language.specs.Runs.{Env, ended, stopped, does, locations, invoke}
 use Rattle.table.specs.Stretches.{node_at}
 use Rattle.table.specs.Walk.{start_at}
 use Rattle.run.specs.declared.bindings.Binding.{Binding}

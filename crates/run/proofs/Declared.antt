@@ -1,5 +1,5 @@
 -- A block's procedures, brought into sight one after the other.
-use Rattle.std.proofs.Common.{◌≡◌, ℕ, zero, suc, ◌+◌, ◌-◌, ◌<◌, ◌≤◌, ◌≢◌, List, [], ◌∷◌, ◌++◌, length, set, sym, refl, ap, ◌∙◌, subst, add-one, arith, length-set, get_or-set_same}
+use Rattle.std.proofs.Common.{◌≡◌, ℕ, zero, suc, ◌+◌, ◌-◌, ◌<◌, ◌≤◌, List, length, set, sym, refl, ap, ◌∙◌, subst, add-one, arith, length-set, get_or-set_same}
 use Rattle.language.specs.declared.tables.Node.{Node}
 use Rattle.scope.specs.Calls.{linked}
 use Rattle.table.specs.Stretches.{node_at}

@@ -1,5 +1,5 @@
 -- What a block comes to.
-use Rattle.std.proofs.Common.{◌≡◌, ℕ, zero, suc, ◌+◌, ◌-◌, ◌<◌, ◌≤◌, ◌⊎◌, List, [], ◌∷◌, ◌++◌, length, Some, None, Option, sym, refl, ap, ◌∙◌, subst, inl, inr, arith}
+use Rattle.std.proofs.Common.{◌≡◌, ℕ, zero, suc, ◌+◌, ◌-◌, ◌<◌, ◌≤◌, List, ◌∷◌, length, Some, None, sym, refl, ap, ◌∙◌, subst, inl, inr, arith}
 use Rattle.language.specs.declared.tables.Node.{Node}
 use Rattle.language.specs.declared.tables.Kind.TheVariants.{Block}
 use Rattle.language.specs.Memory.{Memory}
@@ -10,11 +10,11 @@ use Rattle.table.specs.Stretches.{node_at}
 use Rattle.table.specs.Walk.{start_at}
 use Rattle.run.specs.declared.levels.Frame.{Frame}
 use Rattle.run.specs.declared.levels.State.{State}
-use Rattle.run.specs.declared.levels.State.TheVariants.{Run, End}
+use Rattle.run.specs.declared.levels.State.TheVariants.{Run}
 use Rattle.run.specs.Names.{Records, Linked, SameBelow, weights, locations_from}
-use Rattle.run.specs.Shapes.{kind_at, Shaped, Forest, Trees, decls_at, procs_at, coms_at, back}
-use Rattle.run.specs.Machine.{env_at, frame_after, all_after, run_frame, end_frame, pushed, head, Open, VariablesIn, ProceduresIn, ProceduresOk, Good, GoodFrame, FrameOk, RunOk, Went}
-use Rattle.run.proofs.Steps.{group, lift, lift_releasing, give_first}
+use Rattle.run.specs.Shapes.{kind_at, Shaped, Forest, decls_at, procs_at, coms_at, back}
+use Rattle.run.specs.Machine.{env_at, all_after, run_frame, end_frame, pushed, head, Open, VariablesIn, ProceduresIn, ProceduresOk, Good, GoodFrame, FrameOk, RunOk, Went}
+use Rattle.run.proofs.Steps.{group, lift_releasing, give_first}
 use Rattle.run.proofs.Sights.{env_same, locations_same, weights_same, same_less, same_then, linked_same}
 use Rattle.run.proofs.Opens.{variables_same}
 use Rattle.run.proofs.Declared.{head_low}

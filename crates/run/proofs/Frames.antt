@@ -1,16 +1,16 @@
 -- What a stack of frames may come to.
-use Rattle.std.proofs.Common.{◌≡◌, ℕ, zero, suc, ◌+◌, ◌-◌, ◌<◌, ◌≤◌, ◌⊎◌, List, [], ◌∷◌, ◌++◌, length, Some, None, Ok, Err, Option, Result, sym, refl, ap, ◌∙◌, subst, inl, inr, arith}
+use Rattle.std.proofs.Common.{◌≡◌, ℕ, suc, ◌+◌, ◌-◌, ◌≤◌, List, [], ◌∷◌, length, Some, None, Ok, Err, Option, Result, sym, refl, ap, ◌∙◌, subst, inl, inr, arith}
 use Rattle.language.specs.declared.tables.Node.{Node}
 use Rattle.language.specs.declared.values.Stop.{Stop}
 use Rattle.language.specs.Memory.{Memory}
-use Rattle.language.specs.Runs.{Out, ended, stopped, Step, give, stop, ◌>>=◌, ◌releasing◌, does, release_all}
+use Rattle.language.specs.Runs.{Out, ended, stopped, Step, does, release_all}
 use Rattle.table.specs.Stretches.{node_at}
 use Rattle.run.specs.declared.levels.Frame.{Frame}
 use Rattle.run.specs.declared.levels.State.{State}
 use Rattle.run.specs.declared.levels.State.TheVariants.{Run, End}
 use Rattle.run.specs.Names.{Records, SameBelow}
 use Rattle.run.specs.Shapes.{Forest, Trees}
-use Rattle.run.specs.Machine.{outcome, env_at, frame_after, all_after, under_way, Good, GoodFrame, FrameOk, Went, block_locations}
+use Rattle.run.specs.Machine.{outcome, env_at, frame_after, all_after, under_way, Good, FrameOk, Went, block_locations}
 use Rattle.run.proofs.Sights.{env_same, locations_same}
 use Rattle.run.proofs.Steps.{lift, lift_releasing}
 use Rattle.run.proofs.Goods.{good_weaker, good_same}

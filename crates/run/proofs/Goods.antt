@@ -1,5 +1,5 @@
 -- Frames with room for what they can still do, and what keeps them so.
-use Rattle.std.proofs.Common.{◌≡◌, ℕ, zero, suc, ◌+◌, ◌-◌, ◌<◌, ◌≤◌, List, [], ◌∷◌, ◌++◌, length, sym, refl, ap, ◌∙◌, subst, arith}
+use Rattle.std.proofs.Common.{◌≡◌, ℕ, zero, suc, ◌+◌, ◌-◌, ◌<◌, ◌≤◌, List, [], ◌∷◌, length, sym, ap, ◌∙◌, arith}
 use Rattle.language.specs.declared.tables.Node.{Node}
 use Rattle.table.specs.Walk.{start_at}
 use Rattle.run.specs.declared.levels.Frame.{Frame}
@@ -8,8 +8,8 @@ use Rattle.run.specs.declared.levels.State.{State}
 use Rattle.run.specs.declared.levels.State.TheVariants.{Run, End}
 use Rattle.run.specs.Names.{Records, Linked, SameBelow, weights}
 use Rattle.run.specs.Levels.{frames}
-use Rattle.run.specs.Shapes.{back, ComsBefore, ProcsBefore, ComKind, Shaped, kind_at}
-use Rattle.run.specs.Machine.{pushed, run_frame, Good, GoodFrame, FrameOk, RunOk, EndOk, ProceduresOk}
+use Rattle.run.specs.Shapes.{back, ComsBefore, ProcsBefore}
+use Rattle.run.specs.Machine.{pushed, run_frame, Good, GoodFrame, FrameOk, ProceduresOk}
 use Rattle.run.proofs.Stacks.{newest_length}
 use Rattle.run.proofs.Sights.{linked_same, weights_same}
 use Rattle.run.proofs.Recorded.{ok_same_below}

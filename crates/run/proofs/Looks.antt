@@ -1,18 +1,18 @@
 -- What the records say of names, and what the environment that they stand for says.
-use Rattle.std.proofs.Common.{◌≡◌, ℕ, zero, suc, ◌+◌, ◌-◌, ◌<◌, ◌≤◌, Bool, true, false, cond, List, [], ◌∷◌, ◌++◌, length, Some, None, Option, sym, refl, ap, ◌∙◌, subst, arith}
+use Rattle.std.proofs.Common.{◌≡◌, ℕ, zero, suc, ◌+◌, ◌-◌, ◌<◌, ◌≤◌, Bool, true, false, List, [], ◌∷◌, length, Some, None, Option, sym, refl, ◌∙◌, arith}
 use mathlib.Core.Option.{Option as Found, some, none}
 use Rattle.language.specs.declared.tables.Node.{Node}
 use Rattle.language.specs.declared.tables.Kind.TheVariants.{Proc}
 use Rattle.language.specs.Memory.{Memory}
 use Rattle.language.specs.Same.{same}
 use Rattle.language.specs.Sight.{Bound, place, procedure, find}
-use Rattle.language.specs.Runs.{Env, Step, located}
+use Rattle.language.specs.Runs.{Step, located}
 use Rattle.table.specs.Walk.{start_at}
 use Rattle.run.specs.declared.bindings.Binding.{Binding}
 use Rattle.run.specs.declared.bindings.Binding.TheVariants.{Place, Procedure}
 use Rattle.run.specs.Names.{Records, record-at, found, as_place, sees, Linked, weights, weight}
 use Rattle.run.specs.Shapes.{Forest, kind_at}
-use Rattle.run.specs.Machine.{outcome, env_at, bound_of, env_in, ProceduresOk, ProcedureOk}
+use Rattle.run.specs.Machine.{outcome, env_at, bound_of, env_in, ProceduresOk}
 use Rattle.run.proofs.Sights.{found_here, found_on, found_none, env_step, weights_step}
 use Rattle.run.proofs.Walks.{walk_none}
 use Rattle.run.proofs.Values.{Sights}

@@ -1,5 +1,5 @@
 -- A block's variables and a call's formals, one at a time.
-use Rattle.std.proofs.Common.{◌≡◌, ℕ, zero, suc, ◌+◌, ◌-◌, ◌<◌, ◌≤◌, Bool, true, false, eqb, ◌≢◌, ◌⊎◌, List, [], ◌∷◌, ◌++◌, length, set, Some, None, Ok, Err, Option, Result, sym, refl, ap, ◌∙◌, subst, inl, inr, add-zero, add-one, arith, length-append, length-set, get_or-set_same, eqb-true}
+use Rattle.std.proofs.Common.{◌≡◌, ℕ, zero, suc, ◌+◌, ◌-◌, ◌<◌, ◌≤◌, Bool, true, false, eqb, ◌≢◌, List, [], ◌∷◌, ◌++◌, length, set, Some, None, Ok, Err, Option, Result, sym, refl, ap, ◌∙◌, inl, inr, add-zero, add-one, arith, length-append, length-set, get_or-set_same, eqb-true}
 use borrow.Author.Tests.{eqb-false}
 use Rattle.language.specs.declared.tables.Node.{Node}
 use Rattle.language.specs.declared.values.Value.{Value}
@@ -9,20 +9,18 @@ use Rattle.language.specs.Memory.{Memory, put, live}
 use Rattle.language.specs.Values.{initial_value}
 use Rattle.language.specs.Results as R
 use Rattle.language.specs.Table.{type_of}
-use Rattle.language.specs.Tree.{Decl, Arg}
-use Rattle.language.specs.Runs.{Env, Out, ended, stopped, take_one, take_all, release, release_all}
-use Rattle.scope.specs.declared.Record.{Record}
+use Rattle.language.specs.Tree.{Arg}
+use Rattle.language.specs.Runs.{ended, stopped, take_one, take_all, release, release_all}
 use Rattle.scope.specs.Calls.{linked}
 use Rattle.store.specs.Calls.{Taken, release_answer}
 use Rattle.store.specs.declared.Dead.{Dead}
 use Rattle.table.specs.Stretches.{node_at}
-use Rattle.run.specs.declared.bindings.Binding.{Binding}
-use Rattle.run.specs.declared.bindings.Binding.TheVariants.{Place, Procedure}
-use Rattle.run.specs.Names.{Records, record-at, no_record, found, sees, as_place, Linked, SameBelow, locations_from, location_of}
+use Rattle.run.specs.declared.bindings.Binding.TheVariants.{Place}
+use Rattle.run.specs.Names.{Records, record-at, no_record, sees, as_place, Linked, SameBelow, locations_from, location_of}
 use Rattle.run.specs.Evaluation.{Locator}
 use Rattle.run.specs.Shapes.{row, decls_at, args_at, decl_at, arg_at}
-use Rattle.run.specs.Machine.{outcome, Open, VariablesIn, Bind, args_located}
-use Rattle.run.proofs.Sights.{found_same, locations_same, same_set, same_then, linked_push, length_locations}
+use Rattle.run.specs.Machine.{Open, VariablesIn, Bind, args_located}
+use Rattle.run.proofs.Sights.{found_same, locations_same, same_set, same_then, linked_push}
 use Rattle.run.proofs.Steps.{take_snoc, take_snoc_stop, take_stop_more, release_snoc, release_stop_more}
 
 infixl 20 ◌>>>◌

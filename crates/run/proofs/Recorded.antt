@@ -1,18 +1,17 @@
 -- What the records of variables and procedures stand for, and what they weigh.
-use Rattle.std.proofs.Common.{◌≡◌, ℕ, zero, suc, ◌+◌, ◌-◌, ◌<◌, ◌≤◌, Bool, true, false, eqb, ◌≢◌, List, [], ◌∷◌, ◌++◌, length, sym, refl, ap, ◌∙◌, subst, arith, eqb-true}
+use Rattle.std.proofs.Common.{◌≡◌, ℕ, zero, suc, ◌+◌, ◌-◌, ◌<◌, ◌≤◌, Bool, true, false, eqb, ◌≢◌, List, ◌∷◌, length, sym, refl, ap, ◌∙◌, arith, eqb-true}
 use borrow.Author.Tests.{eqb-false}
 use Rattle.language.specs.declared.tables.Node.{Node}
-use Rattle.language.specs.Tree.{Procs, pnil, pcons}
-use Rattle.language.specs.Sight.{place, procedure, placed}
-use Rattle.language.specs.Runs.{Env, procedures, does}
+use Rattle.language.specs.Tree.{Procs}
+use Rattle.language.specs.Sight.{place, placed}
+use Rattle.language.specs.Runs.{procedures}
 use Rattle.table.specs.Stretches.{node_at}
 use Rattle.table.specs.Walk.{start_at}
-use Rattle.run.specs.declared.bindings.Binding.{Binding}
 use Rattle.run.specs.declared.bindings.Binding.TheVariants.{Place, Procedure}
 use Rattle.run.specs.Names.{Records, record-at, Linked, SameBelow, weights, weight, locations_from, location_of}
 use Rattle.run.specs.Shapes.{Forest, back, row, procs_at, decls_at, decl_at, ProcsBefore}
 use Rattle.run.specs.Machine.{ProceduresIn, VariablesIn, head, env_at, bound_of, ProceduresOk, ProcedureOk}
-use Rattle.run.proofs.Sights.{env_step, weights_step, weights_same, linked_same, length_locations}
+use Rattle.run.proofs.Sights.{env_step, weights_step, weights_same, length_locations}
 use Rattle.run.proofs.Steps.{placed_snoc}
 use Rattle.run.proofs.Opens.{length_row}
 use Rattle.run.proofs.Declared.{head_low}

@@ -1,16 +1,15 @@
 -- Rows of commands and procedures, from the last one back to the first.
-use Rattle.std.proofs.Common.{◌≡◌, ℕ, zero, suc, ◌+◌, ◌-◌, ◌<◌, ◌≤◌, Bool, true, false, eqb, ◌≢◌, List, [], ◌∷◌, ◌++◌, length, get_or, set, Some, sym, refl, ap, ◌∙◌, subst, add-zero, arith, get_or-set_other, get_or-set_same, eqb-true}
+use Rattle.std.proofs.Common.{◌≡◌, ℕ, zero, suc, ◌+◌, ◌-◌, ◌<◌, ◌≤◌, Bool, true, false, eqb, ◌≢◌, List, ◌∷◌, length, set, Some, sym, refl, ap, ◌∙◌, arith, get_or-set_other, get_or-set_same, eqb-true}
 use borrow.Author.Tests.{eqb-false}
 use Rattle.language.specs.declared.tables.Node.{Node}
 use Rattle.language.specs.declared.tables.Kind.TheVariants.{Proc}
-use Rattle.table.specs.Stretches.{node_at}
 use Rattle.table.specs.Walk.{start_at}
 use Rattle.run.specs.declared.levels.Frame.{Frame}
 use Rattle.run.specs.declared.levels.Level.{Level}
 use Rattle.run.specs.declared.levels.State.{State}
 use Rattle.run.specs.Shapes.{kind_at, ComKind, ComsBefore, ProcsBefore, back}
 use Rattle.run.specs.Levels.{level_at, no_level}
-use Rattle.run.specs.Machine.{pushed, Listed}
+use Rattle.run.specs.Machine.{pushed}
 
 pub coms_one : (ns : List Node) (ls : List ℕ) (lo e n k : ℕ) → k < n → ComsBefore ns ls lo e (n - k)
     → (1 ≤ e) × ComKind (kind_at ns (e - 1)) × (lo ≤ start_at ls (e - 1)) × (start_at ls (e - 1) < e) × ComsBefore ns ls lo (start_at ls (e - 1)) (n - (k + 1))

@@ -1,8 +1,7 @@
 -- What is seen from a position, step by step, and which records it depends on.
-use Rattle.std.proofs.Common.{◌≡◌, ℕ, zero, suc, ◌+◌, ◌-◌, ◌<◌, ◌≤◌, Bool, true, false, cond, eqb, ◌≢◌, ◌⊎◌, List, [], ◌∷◌, ◌++◌, length, get_or, set, Some, None, Option, sym, refl, ap, ◌∙◌, subst, inl, inr, add-one, sub-one, arith, length-append, get_or-set_other, get_or-set_same, eq-eqb, ne_eqb, eqb-true}
+use Rattle.std.proofs.Common.{◌≡◌, ℕ, zero, suc, ◌+◌, ◌-◌, ◌<◌, ◌≤◌, Bool, true, false, eqb, ◌≢◌, List, [], ◌∷◌, length, get_or, set, Some, None, sym, refl, ap, ◌∙◌, add-one, arith, length-append, get_or-set_other, get_or-set_same, eqb-true}
 use borrow.Author.Tests.{eqb-false}
 use Rattle.std.specs.List.{slice_get}
-use Rattle.std.proofs.lemmas.Option.{slice_get_read}
 use Rattle.language.specs.declared.tables.Node.{Node}
 use Rattle.language.specs.Same.{same}
 use Rattle.language.specs.Sight.{look}
@@ -10,14 +9,13 @@ use Rattle.language.specs.Runs.{Env}
 use Rattle.scope.specs.declared.Record.{Record}
 use Rattle.scope.specs.Sight.{in_sight, Down}
 use Rattle.scope.specs.Calls.{entered}
-use Rattle.scope.proofs.Chains.{sight_step, sight_alike, sight_zero, look_here, look_on, look_none, latest_at}
-use Rattle.table.specs.Walk.{start_at}
+use Rattle.scope.proofs.Chains.{sight_step, sight_alike, look_here, look_on, look_none, latest_at}
 use Rattle.run.specs.declared.bindings.Binding.{Binding}
 use Rattle.run.specs.declared.bindings.Binding.TheVariants.{Place, Procedure}
-use Rattle.run.specs.Names.{Records, record-at, walk, found, sees, Linked, SameBelow, locations_from, location_of, location_bound, no_record, weights, weigh_in, weight}
+use Rattle.run.specs.Names.{Records, record-at, walk, found, Linked, SameBelow, locations_from, location_of, location_bound, no_record, weights, weigh_in, weight}
 use Rattle.run.specs.Shapes.{Forest}
 use Rattle.run.specs.Machine.{env_at, env_in, bound_of}
-use Rattle.run.proofs.Walks.{walk_more, walk_step, walk_none, walk_same}
+use Rattle.run.proofs.Walks.{walk_more, walk_step, walk_same}
 
 -- a record that is there
 nth_is : (rs : Records) (k : ℕ) → k < length rs → slice_get rs k ≡ Some (record-at rs k)

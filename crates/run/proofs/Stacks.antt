@@ -1,10 +1,9 @@
 -- Frames and values on the levels of a stack.
-use Rattle.std.proofs.Common.{◌≡◌, ℕ, zero, suc, ◌+◌, ◌-◌, ◌<◌, ◌≤◌, ◌≢◌, List, [], ◌∷◌, length, get_or, set, Ok, Err, Result, sym, refl, ap, ◌∙◌, ap₂, add-one, arith, get_or-set_other, get_or-set_same}
+use Rattle.std.proofs.Common.{◌≡◌, ℕ, zero, suc, ◌+◌, ◌-◌, ◌<◌, ◌≤◌, ◌≢◌, List, [], ◌∷◌, length, set, Err, Result, refl, ap, ◌∙◌, ap₂, add-one, arith, get_or-set_other, get_or-set_same}
 use Rattle.language.specs.declared.values.Value.{Value}
 use Rattle.language.specs.declared.values.Stop.{Stop}
 use Rattle.language.specs.declared.values.Stop.TheVariants.{Stuck}
 use Rattle.run.specs.declared.levels.Level.{Level}
-use Rattle.run.specs.declared.levels.Frame.{Frame}
 use Rattle.run.specs.Levels.{newest_first, frames, values, level_at, no_level}
 use Rattle.run.specs.Evaluation.{operated}
 

@@ -1,12 +1,12 @@
 -- Laws of the steps that a run is made of.
-use Rattle.std.proofs.Common.{◌≡◌, ℕ, zero, suc, ◌+◌, ◌-◌, ◌<◌, ◌≤◌, ◌⊎◌, List, [], ◌∷◌, ◌++◌, length, Ok, Err, Result, sym, refl, ap, ◌∙◌, subst, inl, inr, arith}
+use Rattle.std.proofs.Common.{◌≡◌, ℕ, List, [], ◌∷◌, ◌++◌, length, Ok, Err, Result, sym, refl, subst, inl, inr, arith}
 use Rattle.language.specs.declared.values.Stop.{Stop}
 use Rattle.language.specs.Memory.{Memory}
 use Rattle.language.specs.Results as R
 use Rattle.language.specs.Values.{initial_value}
 use Rattle.language.specs.Tree.{Decl}
 use Rattle.language.specs.Sight.{place, placed}
-use Rattle.language.specs.Runs.{Env, Out, ended, stopped, Step, give, stop, answered, ◌>>=◌, ◌releasing◌, take_one, take_all, release, release_all}
+use Rattle.language.specs.Runs.{Env, Out, ended, stopped, Step, give, answered, ◌>>=◌, ◌releasing◌, take_one, take_all, release, release_all}
 use Rattle.run.specs.Machine.{outcome}
 
 abbrev AtEnd : {A : Type 0} → (A → Memory → ℕ → Type 0) → Out A → Type 0

@@ -1,10 +1,10 @@
 -- One step of the newest frame, from what is ready for it.
-use Rattle.std.proofs.Common.{◌≡◌, ℕ, zero, suc, ◌+◌, ◌-◌, ◌<◌, ◌≤◌, Bool, true, false, ◌⊎◌, List, [], ◌∷◌, length, Some, None, Ok, Err, Option, Result, sym, refl, ap, ◌∙◌, subst, inl, inr, arith}
+use Rattle.std.proofs.Common.{◌≡◌, ℕ, suc, ◌+◌, ◌-◌, ◌<◌, ◌≤◌, List, [], ◌∷◌, length, Some, None, Ok, Err, Result, sym, refl, ap, ◌∙◌, subst, inl, inr, arith}
 use Rattle.language.specs.declared.tables.Node.{Node}
-use Rattle.language.specs.declared.tables.Kind.TheVariants.{Assign, If, While, Call, Block}
+use Rattle.language.specs.declared.tables.Kind.TheVariants.{Assign, If, While, Block}
 use Rattle.language.specs.declared.values.Stop.{Stop}
 use Rattle.language.specs.Memory.{Memory}
-use Rattle.language.specs.Runs.{Out, ended, stopped, Step, does, release_all}
+use Rattle.language.specs.Runs.{ended, stopped, does, release_all}
 use Rattle.scope.specs.declared.Scope.{Scope}
 use Rattle.table.specs.Stretches.{node_at}
 use Rattle.table.specs.Walk.{start_at}
@@ -12,15 +12,13 @@ use Rattle.run.specs.declared.bindings.Binding.{Binding}
 use Rattle.run.specs.declared.bindings.Binding.TheVariants.{Procedure}
 use Rattle.run.specs.declared.levels.Frame.{Frame}
 use Rattle.run.specs.declared.levels.Level.{Level}
-use Rattle.run.specs.declared.levels.State.{State}
 use Rattle.run.specs.declared.levels.State.TheVariants.{Run, End}
 use Rattle.run.specs.declared.machine.Left.{Left}
 use Rattle.run.specs.Names.{Records, Linked, SameBelow, weights, found}
 use Rattle.run.specs.Levels.{frames}
 use Rattle.run.specs.Shapes.{kind_at, ComKind, ExprKind, Shaped, Forest, Trees, ComsBefore, ProcsBefore, back}
-use Rattle.run.specs.Machine.{env_at, frame_after, under_way, Good, GoodFrame, FrameOk, RunOk, EndOk, ProceduresOk, Ready, Stepped, Went, block_locations}
+use Rattle.run.specs.Machine.{env_at, Good, FrameOk, RunOk, EndOk, ProceduresOk, Ready, Stepped, block_locations}
 use Rattle.run.proofs.Stacks.{frames_top}
-use Rattle.run.proofs.Sights.{linked_down}
 use Rattle.run.proofs.Looks.{finds}
 use Rattle.run.proofs.Goods.{depth_is, coms_count, procs_count, coms_from_0}
 use Rattle.run.proofs.Frames.{went_on, run_ended, run_stopped, end_ended, end_stuck}

@@ -1,15 +1,14 @@
 -- Frames left by a run that is stopped, and whole runs.
-use Rattle.std.proofs.Common.{◌≡◌, ℕ, zero, suc, ◌+◌, ◌-◌, ◌*◌, ◌<◌, ◌≤◌, ◌⊎◌, List, [], ◌∷◌, length, Some, None, Ok, Err, Option, Result, sym, refl, ap, ◌∙◌, subst, inl, inr, mul-le-mul_right, add-mul, arith}
+use Rattle.std.proofs.Common.{◌≡◌, ℕ, ◌+◌, ◌-◌, ◌*◌, ◌<◌, ◌≤◌, ◌⊎◌, List, [], ◌∷◌, length, Some, None, Ok, Err, Option, Result, refl, inl, inr, mul-le-mul_right, add-mul, arith}
 use Rattle.language.specs.declared.tables.Node.{Node}
 use Rattle.language.specs.declared.values.Stop.{Stop}
 use Rattle.language.specs.Memory.{Memory}
-use Rattle.language.specs.Runs.{Out, ended, stopped, does, release_all}
+use Rattle.language.specs.Runs.{ended, stopped, does, release_all}
 use Rattle.run.specs.declared.levels.Frame.{Frame}
-use Rattle.run.specs.declared.levels.State.{State}
 use Rattle.run.specs.declared.levels.State.TheVariants.{Run, End}
 use Rattle.run.specs.Names.{Records, Linked, weights}
-use Rattle.run.specs.Shapes.{kind_at, ComKind, Forest, Trees}
-use Rattle.run.specs.Machine.{outcome, env_at, all_after, under_way, run_frame, Good, GoodFrame, ProceduresOk, Went, Unwound, Ran, block_locations}
+use Rattle.run.specs.Shapes.{kind_at, ComKind}
+use Rattle.run.specs.Machine.{outcome, env_at, run_frame, Good, GoodFrame, ProceduresOk, Went, Ran, block_locations}
 use Rattle.run.proofs.Steps.{give_first}
 use Rattle.run.proofs.Frames.{went_on, went_then, stop_after, end_stopping, run_stopping}
 

@@ -1,5 +1,5 @@
 -- An expression worked out node by node comes to what its tree does.
-use Rattle.std.proofs.Common.{◌≡◌, ℕ, zero, suc, ◌+◌, ◌-◌, ◌<◌, ◌≤◌, Bool, false, ◌⊎◌, List, [], ◌∷◌, length, get_or, Some, None, Ok, Err, Option, Result, sym, refl, ap, ◌∙◌, inl, inr, add-zero, arith}
+use Rattle.std.proofs.Common.{◌≡◌, ℕ, zero, suc, ◌+◌, ◌-◌, ◌<◌, ◌≤◌, Bool, List, [], ◌∷◌, length, Some, None, Ok, Err, Option, Result, sym, refl, ap, ◌∙◌, add-zero, arith}
 use Rattle.language.specs.declared.tables.Node.{Node}
 use Rattle.language.specs.declared.tables.Kind.{Kind}
 use Rattle.language.specs.declared.tables.Kind.TheVariants.{Truth, Whole, Read, Plus, Less, Or, Null, Assign, If, While, Call, Argument, Decl, Proc, Block}
@@ -13,12 +13,12 @@ use Rattle.language.specs.Results as R
 use Rattle.language.specs.Reference.{as_truth}
 use Rattle.language.specs.Tree.{Arg, Expr, truth, whole, read, plus, less, or}
 use Rattle.language.specs.Sight.{find}
-use Rattle.language.specs.Runs.{Env, Out, ended, stopped, Step, give, ◌>>=◌, value, test, located, fetch, answered, locations}
+use Rattle.language.specs.Runs.{Env, give, ◌>>=◌, value, test, located, fetch, answered, locations}
 use Rattle.table.specs.Stretches.{node_at}
 use Rattle.table.specs.Walk.{start_at}
 use Rattle.run.specs.declared.levels.Level.{Level}
 use Rattle.run.specs.Levels.{newest_first, values, level_at}
-use Rattle.run.specs.Evaluation.{Locator, node_done, nodes_done, only, evaluated, fetched}
+use Rattle.run.specs.Evaluation.{Locator, node_done, nodes_done, only, evaluated}
 use Rattle.run.specs.Shapes.{kind_at, ExprKind, Shaped, Trees, Forest, PairShape}
 use Rattle.run.specs.Machine.{outcome, args_located}
 use Rattle.run.proofs.Steps.{answered_is, bind_outcome}

@@ -1,14 +1,13 @@
 -- What the frames of a run are still to do, and what one step of the runner makes of them.
-use Rattle.std.specs.Prelude.{◌≡◌, ℕ, zero, suc, ◌+◌, ◌-◌, ◌<◌, ◌≤◌, Bool, true, false, cond, ◌⊎◌, List, [], ◌∷◌, length, Some, None, Ok, Err, Option, Result}
+use Rattle.std.specs.Prelude.{◌≡◌, ℕ, zero, suc, ◌+◌, ◌-◌, ◌<◌, ◌≤◌, Bool, ◌⊎◌, List, [], ◌∷◌, length, Some, None, Ok, Err, Option, Result}
 use Rattle.language.specs.declared.tables.Node.{Node}
 use Rattle.language.specs.declared.tables.Kind.TheVariants.{Proc, Block}
 use Rattle.language.specs.declared.values.Stop.{Stop}
-use Rattle.language.specs.declared.values.Stop.TheVariants.{Stuck}
 use Rattle.language.specs.Memory.{Memory}
 use Rattle.language.specs.Results as R
 use Rattle.language.specs.Sight.{Bound, place, procedure, placed, find}
 use Rattle.language.specs.Tree.{Arg}
-use Rattle.language.specs.Runs.{Out, ended, stopped, Step, give, stop, ◌>>=◌, ◌releasing◌, Env, located, value, test, store, take_all, release_all, does}
+use Rattle.language.specs.Runs.{Out, ended, stopped, Step, give, stop, ◌>>=◌, ◌releasing◌, Env, located, value, test, store, take_all, does}
 use Rattle.scope.specs.declared.Scope.{Scope}
 use Rattle.table.specs.Stretches.{node_at}
 use Rattle.table.specs.Walk.{start_at}
@@ -20,7 +19,7 @@ use Rattle.run.specs.declared.levels.State.{State}
 use Rattle.run.specs.declared.levels.State.TheVariants.{Run, End}
 use Rattle.run.specs.declared.machine.Left.{Left}
 use Rattle.run.specs.Shapes.{kind_at, ComKind, Shaped, Forest, Trees, decls_at, args_at, back}
-use Rattle.run.specs.Names.{Records, record-at, walk, Linked, SameBelow, locations_from, location_of, weights, sees}
+use Rattle.run.specs.Names.{Records, record-at, walk, Linked, locations_from, location_of, weights, sees}
 use Rattle.run.specs.Levels.{frames, level_at}
 use Rattle.run.specs.Evaluation.{Locator}
 

@@ -1,5 +1,5 @@
 -- The names in sight during a run: records, each linked to an earlier position.
-use Rattle.std.specs.Prelude.{◌≡◌, ℕ, zero, suc, ◌+◌, ◌-◌, ◌<◌, ◌≤◌, cond, List, [], ◌∷◌, ◌++◌, length, get_or, Some, None, Ok, Err, Option, Result, ◌==◌}
+use Rattle.std.specs.Prelude.{◌≡◌, ℕ, zero, suc, ◌+◌, ◌-◌, ◌<◌, ◌≤◌, cond, List, [], ◌∷◌, ◌++◌, get_or, Some, None, Ok, Err, Option, Result, ◌==◌}
 use Rattle.language.specs.declared.values.Stop.{Stop}
 use Rattle.language.specs.declared.values.Stop.TheVariants.{Stuck}
 use Rattle.language.specs.Sight.{look}

@@ -1,4 +1,6 @@
 // The runner of accepted rules, on any store.
+#![tactic(auto)]
+
 mod bindings;
 mod blocks;
 mod expressions;

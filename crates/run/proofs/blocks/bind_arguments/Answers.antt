@@ -1,6 +1,6 @@
-use Rattle.std.proofs.Common.{◌≡◌, sym, refl, ap, ◌∙◌, arith}
+use Rattle.std.proofs.Common.{◌≡◌, ◌∙◌, arith}
 use Rattle.std.proofs.lemmas.Result.{err_from_is_err_and}
-use Rattle.run.proofs.Opens.{BindingOn, binding_first, binding_more, binding_stop}
+use Rattle.run.proofs.Opens.{binding_first, binding_more, binding_stop}
 use Rattle.run.proofs.Sights.{linked_down}
 use Rattle.run.proofs.blocks.bind_arguments.Goals as goal
 

@@ -1,4 +1,4 @@
-use Rattle.std.proofs.Common.{◌≡◌, sym, refl, ap, ◌∙◌, arith}
+use Rattle.std.proofs.Common.{◌≡◌, arith}
 use Rattle.run.proofs.Declared.{declaring_first, declaring_more, next_inside, declared_all}
 use Rattle.run.proofs.blocks.enter_procedures.Goals as goal
 

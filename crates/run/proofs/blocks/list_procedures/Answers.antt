@@ -1,4 +1,4 @@
-use Rattle.std.proofs.Common.{◌≡◌, ℕ, ◌-◌, ◌<◌, ◌≤◌, sym, refl, ap, ◌∙◌, arith}
+use Rattle.std.proofs.Common.{◌≡◌, ◌-◌, ◌<◌, refl, ap, arith}
 use Rattle.table.specs.Walk.{start_at}
 use Rattle.run.specs.declared.levels.Level.{Level}
 use Rattle.run.proofs.Rows.{procs_one, noted_none, noted_more}

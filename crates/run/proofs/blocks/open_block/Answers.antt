@@ -1,5 +1,5 @@
-use Rattle.std.proofs.Common.{◌≡◌, ◌+◌, sym, refl, ap, ◌∙◌, arith}
-use Rattle.run.proofs.Opens.{Opening, opening_first, opening_more, open_stop}
+use Rattle.std.proofs.Common.{◌≡◌, refl, ◌∙◌, arith}
+use Rattle.run.proofs.Opens.{opening_first, opening_more, open_stop}
 use Rattle.run.proofs.Sights.{linked_down}
 use Rattle.run.proofs.blocks.open_block.Goals as goal
 
@@ -29,7 +29,7 @@ pub loop-k-preserved : goal.loop-k-preserved
 loop-k-preserved g c =
     let o = c.loop-k.invariant.1 in (
       c.take.ensures.limit_kept ∙ c.loop-k.invariant.0,
-      opening_more _ _ _ _ _ _ _ _ _ _ _ _ _ _ _ _ _ _ c.node-node.result _ o (omega (arith, o.top, o.long, c.requires.room, c.loop-k-test.true)) c.node-node.ensures.node c.initial_value.ensures.first
+      opening_more _ _ _ _ _ _ _ _ _ _ _ _ _ _ _ _ _ _ c.node-node.result _ o (omega (arith, o.top, o.long, c.requires.room, c.loop-k-test.true)) c.node-node.ensures.node c.first_value.ensures.first
           c.loop-k.invariant.0 c.in-Ok.ensures.taken c.enter.ensures.records_after c.enter.ensures.top_after c.enter.ensures.head_after,
     )
 

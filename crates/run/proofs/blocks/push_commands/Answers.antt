@@ -1,4 +1,4 @@
-use Rattle.std.proofs.Common.{◌≡◌, ℕ, ◌-◌, ◌<◌, ◌≤◌, sym, refl, ap, ◌∙◌, arith}
+use Rattle.std.proofs.Common.{◌≡◌, ◌-◌, ◌<◌, sym, refl, ap, ◌∙◌, arith}
 use Rattle.table.specs.Walk.{start_at}
 use Rattle.run.specs.Machine.{pushed}
 use Rattle.run.proofs.Rows.{coms_one, pushed_one, pushed_all, back_one, back_all}

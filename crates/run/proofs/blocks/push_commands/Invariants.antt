@@ -1,4 +1,4 @@
-use Rattle.std.proofs.Common.{◌≡◌, ℕ, ◌+◌, ◌-◌, ◌≤◌, length}
+use Rattle.std.proofs.Common.{◌≡◌, ◌+◌, ◌-◌, ◌≤◌, length}
 use Rattle.run.specs.Shapes.{ComsBefore, back}
 use Rattle.run.specs.Levels.{frames}
 use Rattle.run.specs.Machine.{pushed}

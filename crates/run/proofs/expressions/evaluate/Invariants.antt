@@ -1,4 +1,4 @@
-use Rattle.std.proofs.Common.{◌≡◌, ◌+◌, ◌-◌, ◌≤◌, [], length}
+use Rattle.std.proofs.Common.{◌≡◌, ◌+◌, ◌-◌, ◌≤◌, []}
 use Rattle.table.specs.Walk.{start_at}
 use Rattle.run.specs.Names.{sees}
 use Rattle.run.specs.Levels.{frames, values}

@@ -1,8 +1,7 @@
-use Rattle.std.proofs.Common.{◌≡◌, ℕ, ◌+◌, ◌-◌, ◌≤◌, Some, Ok, Err, sym, refl, ap, ◌∙◌, inl, inr, arith}
+use Rattle.std.proofs.Common.{◌≡◌, ◌+◌, refl, ap, ◌∙◌, inl, arith}
 use Rattle.std.proofs.lemmas.Result.{err_from_is_err_and}
 use Rattle.language.specs.declared.tables.Node.{Node}
 use Rattle.table.specs.Stretches.{node_at}
-use Rattle.table.specs.Walk.{start_at}
 use Rattle.run.specs.Machine.{head}
 use Rattle.run.specs.Shapes.{back}
 use Rattle.run.proofs.Arms.{out_of_units, block_full}

@@ -1,13 +1,10 @@
-use Rattle.std.proofs.Common.{◌≡◌, ℕ, ◌+◌, ◌-◌, ◌≤◌, Some, Ok, Err, sym, refl, ap, ◌∙◌, inl, inr, arith}
+use Rattle.std.proofs.Common.{◌≡◌, sym, refl, ap, ◌∙◌, inl, arith}
 use Rattle.std.proofs.lemmas.Result.{err_from_is_err_and}
 use Rattle.language.specs.declared.tables.Node.{Node}
 use Rattle.table.specs.Stretches.{node_at}
-use Rattle.table.specs.Walk.{start_at}
-use Rattle.run.specs.declared.bindings.Binding.TheVariants.{Procedure}
-use Rattle.run.specs.Names.{found}
 use Rattle.run.proofs.Arms.{out_of_units, runs_too}
 use Rattle.run.proofs.Calls.{procedure_found, call_no_args, call_no_procedure, call_wrong, call_goes}
-use Rattle.run.proofs.Turns.{running, stopped_here, command_stopped, procedure_at, frames_below}
+use Rattle.run.proofs.Turns.{running, stopped_here, command_stopped, procedure_at}
 use Rattle.run.proofs.machine.begin_call.Goals as goal
 
 pub returns-in_err-units : goal.returns-in_err-units

@@ -1,6 +1,5 @@
-use Rattle.std.proofs.Common.{◌≡◌, ℕ, ◌+◌, ◌-◌, ◌≤◌, Ok, Err, sym, refl, ap, ◌∙◌, inl, inr, arith}
+use Rattle.std.proofs.Common.{◌≡◌, refl, ◌∙◌, inl, arith}
 use Rattle.std.proofs.lemmas.Result.{err_from_is_err_and}
-use Rattle.table.specs.Walk.{start_at}
 use Rattle.run.proofs.Arms.{out_of_units, if_no_test, if_goes, chosen, runs_too}
 use Rattle.run.proofs.Turns.{running, stopped_here, of_if, frames_below}
 use Rattle.run.proofs.machine.begin_if.Goals as goal

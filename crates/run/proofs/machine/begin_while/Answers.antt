@@ -1,6 +1,5 @@
-use Rattle.std.proofs.Common.{◌≡◌, ℕ, ◌+◌, ◌-◌, ◌≤◌, Ok, Err, sym, refl, ap, ◌∙◌, inl, inr, arith}
+use Rattle.std.proofs.Common.{refl, inl, arith}
 use Rattle.std.proofs.lemmas.Result.{err_from_is_err_and}
-use Rattle.table.specs.Walk.{start_at}
 use Rattle.run.proofs.Arms.{out_of_units, while_no_test, while_leaves, while_goes, runs_too}
 use Rattle.run.proofs.Turns.{running, stopped_here, ended_here, of_while}
 use Rattle.run.proofs.machine.begin_while.Goals as goal

@@ -1,4 +1,4 @@
-use Rattle.std.proofs.Common.{◌≡◌, ◌-◌, length, Ok, Err, sym, refl, ap, ◌∙◌, arith}
+use Rattle.std.proofs.Common.{◌≡◌, length, refl, ◌∙◌, arith}
 use Rattle.run.specs.Levels.{newest_first}
 use Rattle.run.proofs.Stacks.{newest_none}
 use Rattle.run.proofs.Sights.{linked_down}

@@ -1,4 +1,4 @@
-use Rattle.std.proofs.Common.{◌≡◌, Ok, Err, sym, refl, ap, ◌∙◌, arith}
+use Rattle.std.proofs.Common.{Ok, Err, refl, ◌∙◌, arith}
 use Rattle.run.proofs.Stacks.{newest_none}
 use Rattle.run.proofs.Turns.{ends_block, newest_there}
 use Rattle.run.proofs.Unwinding.{went_nowhere, left_block, left_command}

@@ -11,20 +11,20 @@ returns-in_err-left g c =
       result = λ d e. result_stopped _ _ _ d _ _ _ _ (c.in_err-left.ensures.performed d e);
     }
 
-pub returns-in_err-whole_of : goal.returns-in_err-whole_of
-returns-in_err-whole_of g c =
-    let p = err_from_is_err_and c.from_residual-in_err-whole_of.result c.from_residual-in_err-whole_of.ensures.1 in
+pub returns-in_err-whole_of-in-Ok : goal.returns-in_err-whole_of-in-Ok
+returns-in_err-whole_of-in-Ok g c =
+    let p = err_from_is_err_and c.from_residual-in_err-whole_of-in-Ok.result c.from_residual-in_err-whole_of-in-Ok.ensures.1 in
     rw (p.1, p.2) record {
       limit_kept = c.perform_rule.ensures.limit_kept;
-      result = λ d e. result_no_whole _ _ _ d _ _ _ c.in_ok-left.left c.in-Ok.value _ (c.in_ok-left.ensures.performed d e) c.in-Ok.ensures c.in_err-whole_of.ensures.whole;
+      result = λ d e. result_no_whole _ _ _ d _ _ _ c.in_ok-left.left c.in-Ok.value _ (c.in_ok-left.ensures.performed d e) c.in-Ok.ensures c.in_err-whole_of-in-Ok.ensures.whole;
     }
 
-pub returns-in_ok-whole_of : goal.returns-in_ok-whole_of
-returns-in_ok-whole_of g c =
-    let f : SFits w32 c.in_ok-whole_of.field-0 = search rules in
+pub returns-in_ok-whole_of-in-Ok : goal.returns-in_ok-whole_of-in-Ok
+returns-in_ok-whole_of-in-Ok g c =
+    let f : SFits w32 c.in_ok-whole_of-in-Ok.field-0 = search rules in
     record {
       limit_kept = c.perform_rule.ensures.limit_kept;
-      result = λ d e. result_whole _ _ _ d _ _ _ c.in_ok-left.left c.in-Ok.value c.in_ok-whole_of.field-0 _ (to_z-of_z f) (c.in_ok-left.ensures.performed d e) c.in-Ok.ensures c.in_ok-whole_of.ensures.whole;
+      result = λ d e. result_whole _ _ _ d _ _ _ c.in_ok-left.left c.in-Ok.value c.in_ok-whole_of-in-Ok.field-0 _ (to_z-of_z f) (c.in_ok-left.ensures.performed d e) c.in-Ok.ensures c.in_ok-whole_of-in-Ok.ensures.whole;
     }
 
 pub returns-in-Err : goal.returns-in-Err
