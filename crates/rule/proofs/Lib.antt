@@ -7,7 +7,7 @@ mod Snocs
 mod ComShapes
 mod Sights
 mod Laws
-mod Bounds
+pub mod Bounds
 mod Splits
 mod Names
 mod Passes
