@@ -17,7 +17,7 @@ use Rattle.language.specs.Tree.{Com}
 use Rattle.language.specs.Meaning.{Trace, Means}
 use Rattle.language.specs.Reference.{graded, answer}
 use Rattle.language.specs.Outcome.{told}
-use Rattle.language.specs.Runs.{Out, ended, stopped, runs}
+use Rattle.language.specs.Runs.{Out, ended, stopped}
 use Rattle.language.specs.Laws.{AsAnswered}
 use Rattle.language.proofs.Commands.{gives_exactly, steady as steadily}
 use Rattle.language.proofs.Sound.{sound_runs, runs_exist}

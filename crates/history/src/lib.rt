@@ -1,4 +1,6 @@
 // Calls of a piece and their answers as values, what a piece is to its callers, and the laws of whole histories.
+#![tactic(auto)]
+
 ghost use Rattle.history.specs.Promise.{Always, Alike, Steady, UndoneWholly, RefusedWholly, Answered, AnsweredOnce};
 
 mod answers;

@@ -1,5 +1,5 @@
 -- What a grade learns of its run.
-use Rattle.std.specs.Prelude.{◌≡◌, ℕ, ◌-◌, ℤ, pos, Some, Ok, Err, Option, Result}
+use Rattle.std.specs.Prelude.{◌≡◌, ℕ, ℤ, pos, Some, Ok, Err, Option, Result}
 use Rattle.language.specs.declared.values.Graded.{Graded}
 use Rattle.language.specs.declared.faults.Fault.{Fault}
 use Rattle.language.specs.declared.faults.Layer.{Layer}

@@ -1,4 +1,6 @@
 // A pattern piece at one size: its points' shifts, held in a store of its own, and the calls that change them.
+#![tactic(auto)]
+
 mod lists;
 mod pieces;
 mod points;

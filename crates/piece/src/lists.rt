@@ -1,6 +1,6 @@
 // Whole lists of calls, performed on a piece that is set down for them.
 ghost use Rattle.std.specs.Prelude.{◌≡◌, min, length, take, drop};
-ghost use Rattle.history.specs.States.{Accepted, Call as Asked, Grade as grades, Does};
+ghost use Rattle.history.specs.States.{Accepted, Call as Asked, grade as grades, Does};
 ghost use Rattle.piece.specs.Replay.{Meant, table_at, checked, Replayed, start};
 ghost use Rattle.piece.specs.Views.{Sound, view, said};
 

@@ -2,7 +2,7 @@
 ghost use Rattle.std.specs.Prelude.{◌≡◌, ◌<◌, length};
 ghost use Rattle.language.specs.declared.faults.Layer.TheVariants as layers;
 ghost use Rattle.language.specs.Faults.{fault};
-ghost use Rattle.history.specs.States.{Accepted, Does, fresh, Grade as grades, Lay as lays, Open as opens, Keep as keeps, Undo as undoes, Show as shows};
+ghost use Rattle.history.specs.States.{Accepted, Does, fresh, grade as grades, lay as lays, open_to as opens, keep as keeps, undo as undoes, show as shows};
 ghost use Rattle.piece.specs.Runs.{below, RanOn};
 ghost use Rattle.piece.specs.Views.{Sound, view, said, said_back, Back, ticket_answer, with_shift};
 

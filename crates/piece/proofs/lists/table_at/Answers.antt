@@ -7,4 +7,4 @@ returns-then-place-tables c = sym (get_or-map (λ x. x.now) c.args.tables.now c.
 
 pub returns-else-place-tables : goal.returns-else-place-tables
 returns-else-place-tables c =
-    sym (get_or_past (map now c.args.tables.now) c.args.place [] (let l = length-map c.args.tables.now now in let h = c.if-place-tables.false in omega arith))
+    sym (get_or_past (map (λ x. x.now) c.args.tables.now) c.args.place [] (let l = length-map c.args.tables.now (λ x. x.now) in let h = c.if-place-tables.false in omega arith))

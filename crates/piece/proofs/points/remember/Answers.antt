@@ -10,9 +10,9 @@ shift_at-requires g c = record {
 
 pub loop-i-preserved : goal.loop-i-preserved
 loop-i-preserved g c =
-    let f : SFits w32 c.shift_in.result = search rules in
+    let f : SFits w32 c.shift_at.result = search rules in
     remember_more (g.S.Store.at c.args.store.now) c.args.points.now c.loop-i.points c.loop-i.i c.loop-i.invariant
-    (let t = c.loop-i-test.true in let w = c.requires.within in omega arith) _ (to_z-of_z f ∙ c.shift_in.ensures.shift)
+    (let t = c.loop-i-test.true in let w = c.requires.within in omega arith) _ (to_z-of_z f ∙ c.shift_at.ensures.shift)
 
 pub returns : goal.returns
 returns g c = record {
