@@ -1,0 +1,55 @@
+// Checks each sample rule and runs it on a record store of 64 cells: prints the shift and the units, or the refusal.
+#![tactic(auto)]
+
+use language::{Fault, Graded, Scalar};
+use record_store::{Cell, RecordStore};
+use rule::{Entry, Rule, check};
+use run::{Binding, Level, run};
+use samples::{Sample, sample_lines};
+use scope::Record;
+
+const CELLS: usize = 64;
+
+// Records in each work list: enough for every sample.
+const WORK: usize = 64;
+
+// Fills the place with the sample's rule, if it is accepted.
+fn accept<'a>(place: &mut Rule<'a>, sample: Sample) -> Result<(), Fault> {
+    let mut lens = [0; WORK];
+    let mut names = [Record::blank(Entry::Hidden); WORK];
+    let mut types = [Scalar::Whole; WORK];
+    check(place, sample.nodes, &mut lens, &mut names, &mut types)
+}
+
+fn answer(sample: Sample) -> Result<Graded, Fault> {
+    let mut rule = Rule::built_in();
+    accept(&mut rule, sample)?;
+    let mut lens = [0; WORK];
+    let mut names = [Record::blank(Binding::Place(0)); WORK];
+    let mut levels = [Level::blank(); WORK];
+    let mut cells = [Cell::free(); CELLS];
+    run(
+        &rule,
+        sample.step,
+        sample.allowance,
+        &mut RecordStore::over(&mut cells),
+        &mut lens,
+        &mut names,
+        &mut levels,
+    )
+}
+
+fn show(rt: &HostRuntime, name: &str, answer: Result<Graded, Fault>) -> anyhow::Result<()> {
+    match answer {
+        Ok(graded) => println!(rt; "{name} ok {} {}", graded.shift, graded.units)?,
+        Err(fault) => println!(rt; "{name} no {} {}", fault.layer.number(), fault.place)?,
+    }
+    Ok(())
+}
+
+fn main(rt: HostRuntime) -> anyhow::Result<()> {
+    for sample in sample_lines() {
+        show(&rt, sample.name, answer(sample))?;
+    }
+    Ok(())
+}
