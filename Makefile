@@ -1,10 +1,9 @@
 # Proves what the program needs, builds it and runs it.
 run:
-	rt check lines
-	target/bin/lines
+	cd crates/lines && rt run
 
-# Proves every crate, compares what the program writes, and runs the tests.
+# Proves every crate, tries the must-fail edits, compares what the programs write, and runs the tests.
 test:
-	rt check
+	rt ci
 
 .PHONY: run test
