@@ -1,5 +1,5 @@
+// Tests of check on the samples and at the bounds of tables and work lists.
 #![tactic(auto)]
 
-// Tests of check on the samples and at the bounds of tables and work lists.
 #[cfg(test)]
 mod tests;

@@ -10,7 +10,7 @@ use Rattle.language.specs.declared.values.Graded.{Graded as Grading}
 use Rattle.language.specs.declared.faults.Fault.{Fault}
 use Rattle.language.specs.declared.faults.Layer.TheVariants as layers
 use Rattle.language.specs.declared.faults.PieceCause.TheVariants as causes
-use Rattle.language.specs.declared.faults.RunCause.TheVariants as run-causes
+use Rattle.language.specs.declared.faults.RunCause.TheVariants as run_causes
 use Rattle.language.specs.Faults.{fault}
 use Rattle.language.specs.Memory.{Memory, live}
 use Rattle.language.specs.Tree.{Com}
@@ -45,8 +45,8 @@ told_ok (Err Stuck) g e = never (cc)
 
 told_stop : (y : Result Grading Stop) (k : ℕ) (f : Fault) → told y ≡ Some (Err f) → run_of (Refused (at_point k f)) ≡ Some (Err f)
 told_stop (Ok x) k f e = never (cc)
-told_stop (Err (Sum i)) k f e = let q : fault (layers.Run run-causes.Sum) i ≡ f = cc in subst (λ (x : Fault). run_of (Refused (at_point k x)) ≡ Some (Err x)) q refl
-told_stop (Err (UnitStop i)) k f e = let q : fault (layers.Run run-causes.Unit) i ≡ f = cc in subst (λ (x : Fault). run_of (Refused (at_point k x)) ≡ Some (Err x)) q refl
+told_stop (Err (Sum i)) k f e = let q : fault (layers.Run run_causes.Sum) i ≡ f = cc in subst (λ (x : Fault). run_of (Refused (at_point k x)) ≡ Some (Err x)) q refl
+told_stop (Err (UnitStop i)) k f e = let q : fault (layers.Run run_causes.Unit) i ≡ f = cc in subst (λ (x : Fault). run_of (Refused (at_point k x)) ≡ Some (Err x)) q refl
 told_stop (Err Stuck) k f e = never (cc)
 
 abbrev is_some : Option Accepted → Bool
@@ -290,8 +290,8 @@ faithful p h s reach m k r a w x s' y d e =
 some_run : (s : State) (k : ℕ) (t : ℤ) (ls : List ℕ) (zs bs : List ℤ) (gs : List Bool) (y : Result Grading Stop) → (y ≡ Err Stuck → ⊥)
     → (v : RunAnswer) × ((does_run s k t ls zs bs gs (told y)).0 ≡ Some (said k v)) × (run_of (said k v) ≡ Some v)
 some_run s k t ls zs bs gs (Ok g) n = (Ok g, refl, refl)
-some_run s k t ls zs bs gs (Err (Sum i)) n = (Err (fault (layers.Run run-causes.Sum) i), refl, refl)
-some_run s k t ls zs bs gs (Err (UnitStop i)) n = (Err (fault (layers.Run run-causes.Unit) i), refl, refl)
+some_run s k t ls zs bs gs (Err (Sum i)) n = (Err (fault (layers.Run run_causes.Sum) i), refl, refl)
+some_run s k t ls zs bs gs (Err (UnitStop i)) n = (Err (fault (layers.Run run_causes.Unit) i), refl, refl)
 some_run s k t ls zs bs gs (Err Stuck) n = absurd (n refl)
 
 reaches : (p : Start) (h : History) (s : State) → Reached p h s → Reaches p h s
@@ -319,13 +319,13 @@ reaches p h s reach m k r a w x s' d = (there, λ q. (ran_well p h s s' m k r a 
         (y, ap run_of (is (sym e ∙ d.answers)) ∙ q)
 
 live_points : (p : Start) (h : History) (s : State) → Reached p h s → Live p h s
-live_points p h s reach some-laid = let H = holds p h s reach in go H s.mode H.fitting
+live_points p h s reach some_laid = let H = holds p h s reach in go H s.mode H.fitting
   where
     go : Holds p h s → (m : Mode) → Fitting p.held (resizing h) (points h) (kept_rules h) (kept_step h) (open_rules h) (open_step h) m
         → Free (locations_of m) × (length (locations_of m) ≡ points h) × ((l : ℕ) → Apart l (locations_of m) → store_of m l ≡ None) × (live (store_of m) ≡ points h) × ((l : ℕ) → p.held l ≡ None)
     go H (bare σ) f = let e = f.1 in absurd (omega arith)
-    go H (laid ls zs) f = (f.1, f.2, λ l a. absent l ls zs a, held_count ls zs f.1 (f.3 ∙ sym f.2) ∙ f.2, H.vacated some-laid)
-    go H (opened t ls zs bs gs) f = (f.1, f.2, λ l a. absent l ls zs a, held_count ls zs f.1 (f.3 ∙ sym f.2) ∙ f.2, H.vacated some-laid)
+    go H (laid ls zs) f = (f.1, f.2, λ l a. absent l ls zs a, held_count ls zs f.1 (f.3 ∙ sym f.2) ∙ f.2, H.vacated some_laid)
+    go H (opened t ls zs bs gs) f = (f.1, f.2, λ l a. absent l ls zs a, held_count ls zs f.1 (f.3 ∙ sym f.2) ∙ f.2, H.vacated some_laid)
 
 -- runs that are alike
 came : (c : Com) (step : ℤ) (a : ℕ) (y : RunAnswer) → Came c step a y → told (answer c step a) ≡ Some y

@@ -209,8 +209,8 @@ mutual
       (n, rw (fit_args ρ xs h.0 h.2, p, eq-eqb (length h.0) (length h.0) refl, all_alike_self h.0) refl)
   accepted ρ (block i ds ps cs) h =
       let inner = variables ds (without (proc_names ps) ρ) in
-      let same-inner = erase_variables ds (without (proc_names ps) ρ) ∙ ap (WF.variables ds) (erase_without (proc_names ps) ρ) in
-      let (ρ', p, q) = accepted_bodies inner [] ps (variables ds ρ) (subst⁻¹ (λ v. Bodies v ps) same-inner h.2) h.1 (apart_none (proc_names ps)) in
+      let same_inner = erase_variables ds (without (proc_names ps) ρ) ∙ ap (WF.variables ds) (erase_without (proc_names ps) ρ) in
+      let (ρ', p, q) = accepted_bodies inner [] ps (variables ds ρ) (subst⁻¹ (λ v. Bodies v ps) same_inner h.2) h.1 (apart_none (proc_names ps)) in
       let (n, r) = accepted_all ρ' cs (subst⁻¹ (λ v. AllFormed v cs) (q ∙ ap (WF.procedures ps) (erase_variables ds ρ)) h.3) in
       (length ds + n, rw (declares [] ds h.0 (apart_none (names ds)), p, r) refl)
 

@@ -161,13 +161,13 @@ module _ {limit : ℕ} {B : Memory → Type 0} where
 -- a step and then the release of its locations, at its end and at its stop
 module _ {limit : ℕ} {B B' : Memory → Type 0} {A X Y : Type 0} {mem : A → X → Memory} {left : A → X → ℕ} {T : A → X → Type 0}
     {mem' : A → Y → Memory} {left' : A → Y → ℕ} {T' : A → Y → Type 0} (ls : List ℕ) (j : X → Result Y Stop)
-    (atEnd : (a : A) (y : X) → T a y → Sim {A = A} {X = Y} limit B' (M.◌>>=◌ (release_all ls) (λ _. give a)) (mem a y) (left a y) mem' left' T' (j y))
-    (atStop : (s : Stop) (τ : Memory) → (s ≡ Stuck → ⊥) → B τ → Sim {A = A} {X = Y} limit B' (M.◌>>=◌ (release_all ls) (λ _. stop s)) τ 0 mem' left' T' (Err s)) where
+    (at_end : (a : A) (y : X) → T a y → Sim {A = A} {X = Y} limit B' (M.◌>>=◌ (release_all ls) (λ _. give a)) (mem a y) (left a y) mem' left' T' (j y))
+    (at_stop : (s : Stop) (τ : Memory) → (s ≡ Stuck → ⊥) → B τ → Sim {A = A} {X = Y} limit B' (M.◌>>=◌ (release_all ls) (λ _. stop s)) τ 0 mem' left' T' (Err s)) where
   stop_released : {x : Result X Stop} {o : Out A} {s : Stop} {τ : Memory} → M.◌>>=◌ (release_all ls) (λ _. stop s) τ 0 o
       → Agree {A = A} {X = X} B mem left T (stopped s τ) x → Agree {A = A} {X = Y} B' mem' left' T' o (R.◌>>=◌ x j)
   stop_released {o} {s} {τ} h (stops s' τ' e ex ns b) =
       let p = stop_is e in
-      let q = (atStop s τ (λ z. ns (sym p.0 ∙ z)) (subst B (sym p.1) b)).run o h in
+      let q = (at_stop s τ (λ z. ns (sym p.0 ∙ z)) (subst B (sym p.1) b)).run o h in
       subst (Agree {A = A} {X = Y} B' mem' left' T' o) (sym (ap (λ x. R.◌>>=◌ x j) ex ∙ ap Err (sym p.0))) q
   stop_released h (ends a y e ex t) = absurd (end≢stop (sym e))
 
@@ -175,18 +175,18 @@ module _ {limit : ℕ} {B B' : Memory → Type 0} {A X Y : Type 0} {mem : A → 
       → Agree {A = A} {X = X} B mem left T (ended a τ w) x → Agree {A = A} {X = Y} B' mem' left' T' o (R.◌>>=◌ x j)
   end_released h (stops s τ e ex ns b) = absurd (end≢stop e)
   end_released {o} h (ends a y e ex t) =
-      subst (λ x. Agree B' mem' left' T' o (R.◌>>=◌ x j)) (sym ex) ((atEnd a y t).run o (moved (λ a. M.◌>>=◌ (release_all ls) (λ _. give a)) e h))
+      subst (λ x. Agree B' mem' left' T' o (R.◌>>=◌ x j)) (sym ex) ((at_end a y t).run o (moved (λ a. M.◌>>=◌ (release_all ls) (λ _. give a)) e h))
 
   released_goes : {x : Result X Stop} (m : Step A) {σ : Memory} {u : ℕ} → limit ≤ 65536 → (o : Out A) → m σ u o → Agree {A = A} {X = X} B mem left T o x
       → (o' : Out A) × (m releasing ls) σ u o'
   released_goes m top (stopped s τ) h (stops s' τ' e ex ns b) =
       let p = stop_is e in
-      let (o, r) = (atStop s τ (λ z. ns (sym p.0 ∙ z)) (subst B (sym p.1) b)).goes top in
+      let (o, r) = (at_stop s τ (λ z. ns (sym p.0 ∙ z)) (subst B (sym p.1) b)).goes top in
       (o, inl (s, τ, h, r))
   released_goes m top (stopped s τ) h (ends a y e ex t) = absurd (end≢stop (sym e))
   released_goes m top (ended a τ w) h (stops s τ' e ex ns b) = absurd (end≢stop e)
   released_goes m top (ended a τ w) h (ends b y e ex t) =
-      let (o, r) = (atEnd b y t).goes top in
+      let (o, r) = (at_end b y t).goes top in
       (o, inr (a, τ, w, h, moved (λ a. M.◌>>=◌ (release_all ls) (λ _. give a)) (sym e) r))
 
   pub releases : {x : Result X Stop} (m : Step A) {σ : Memory} {u : ℕ} → Sim limit B m σ u mem left T x

@@ -11,7 +11,7 @@ use Rattle.language.specs.declared.faults.Fault.{Fault}
 use Rattle.language.specs.declared.faults.Layer.TheVariants as layers
 use Rattle.language.specs.declared.faults.PieceCause.TheVariants as causes
 use Rattle.language.specs.declared.faults.TableCause.TheVariants.{WorkLists}
-use Rattle.language.specs.declared.faults.RunCause.TheVariants as run-causes
+use Rattle.language.specs.declared.faults.RunCause.TheVariants as run_causes
 use Rattle.language.specs.declared.values.Stop.{Stop}
 use Rattle.language.specs.declared.values.Stop.TheVariants.{Sum, Unit as UnitStop, Stuck}
 use Rattle.language.specs.Faults.{fault}
@@ -141,14 +141,14 @@ is {A} {a} {b} e = let q : a ≡ b = cc in sym q
 -- what is told of a run comes from below
 told_below : (y : Result Graded Stop) (k : ℕ) (f : Fault) → told y ≡ Some (Err f) → from_below k f f.layer ≡ at_point k f
 told_below (Ok x) k f e = never (cc)
-told_below (Err (Sum i)) k f e = let q : fault (layers.Run run-causes.Sum) i ≡ f = cc in subst (λ (x : Fault). from_below k x x.layer ≡ at_point k x) q refl
-told_below (Err (UnitStop i)) k f e = let q : fault (layers.Run run-causes.Unit) i ≡ f = cc in subst (λ (x : Fault). from_below k x x.layer ≡ at_point k x) q refl
+told_below (Err (Sum i)) k f e = let q : fault (layers.Run run_causes.Sum) i ≡ f = cc in subst (λ (x : Fault). from_below k x x.layer ≡ at_point k x) q refl
+told_below (Err (UnitStop i)) k f e = let q : fault (layers.Run run_causes.Unit) i ≡ f = cc in subst (λ (x : Fault). from_below k x x.layer ≡ at_point k x) q refl
 told_below (Err Stuck) k f e = never (cc)
 
 told_run : (y : Result Graded Stop) (k : ℕ) (x : Result Graded Fault) → told y ≡ Some x → run_in (below k x) ≡ Some x
 told_run (Ok g) k x e = let q : Ok g ≡ x = cc in subst (λ (v : Result Graded Fault). run_in (below k v) ≡ Some v) q refl
-told_run (Err (Sum i)) k x e = let q : Err (fault (layers.Run run-causes.Sum) i) ≡ x = cc in subst (λ (v : Result Graded Fault). run_in (below k v) ≡ Some v) q refl
-told_run (Err (UnitStop i)) k x e = let q : Err (fault (layers.Run run-causes.Unit) i) ≡ x = cc in subst (λ (v : Result Graded Fault). run_in (below k v) ≡ Some v) q refl
+told_run (Err (Sum i)) k x e = let q : Err (fault (layers.Run run_causes.Sum) i) ≡ x = cc in subst (λ (v : Result Graded Fault). run_in (below k v) ≡ Some v) q refl
+told_run (Err (UnitStop i)) k x e = let q : Err (fault (layers.Run run_causes.Unit) i) ≡ x = cc in subst (λ (v : Result Graded Fault). run_in (below k v) ≡ Some v) q refl
 told_run (Err Stuck) k x e = never (cc)
 
 pub below_ok : (k : ℕ) (x : Result Graded Fault) (y : Graded) → below k x ≡ Ok y → x ≡ Ok y
@@ -204,9 +204,9 @@ module _ {S : Type 0} (g : Ghosts S) (p : Piece S) (s : Sound g p) (t : ℤ) (e 
         λ y q. let z : None ≡ Some y = sym (ap (λ (x : Fault). run_in (Err x)) ef) ∙ q in never (cc),
       )
 
-  module _ (r : Accepted) (a : ℕ) (w : ℕ × ℕ × ℕ) (x : Result Graded Fault) (lt : k < p.laid) (u : ℤ) (eu : u ≡ t) (ran-so : Ran r (g.bound p.store) held w u a x) where
+  module _ (r : Accepted) (a : ℕ) (w : ℕ × ℕ × ℕ) (x : Result Graded Fault) (lt : k < p.laid) (u : ℤ) (eu : u ≡ t) (ran_so : Ran r (g.bound p.store) held w u a x) where
     ran : Ran r (g.bound p.store) held w t a x
-    ran = subst (λ (v : ℤ). Ran r (g.bound p.store) held w v a x) eu ran-so
+    ran = subst (λ (v : ℤ). Ran r (g.bound p.store) held w v a x) eu ran_so
 
     pub grade_comes : does [] (view g p) (calls.grade m k r a w) ≡ after_run (view g p) k x
     grade_comes =
@@ -268,7 +268,7 @@ gives_tells : (limit : ℕ) (c : Com) (step : ℤ) (σ : Memory) (a : ℕ) (y : 
 gives_tells limit c step σ a (Ok g) (le, so) =
     let e : g.units ≡ a - (a - g.units) = omega arith in
     (ended g.shift σ (a - g.units), so, (ap (λ (u : ℕ). Ok (graded g.shift u)) e, omega arith, refl))
-gives_tells limit c step σ a (Err f) (s, n, told-so, so) = (stopped s σ, so, (told-so, refl))
+gives_tells limit c step σ a (Err f) (s, n, told_so, so) = (stopped s σ, so, (told_so, refl))
 
 module _ (r : Accepted) (limit : ℕ) (σ : Memory) (w : ℕ × ℕ × ℕ) (step : ℤ) (a : ℕ) (y : Result Graded Fault) (within : live σ ≤ limit) where
   ran_at : Some y ≡ run_answer r.table r.need step a w.0 w.1 w.2 limit (live σ)

@@ -6,7 +6,7 @@ use Rattle.table.specs.Stretches.{node_at}
 use Rattle.table.specs.Walk.{start_at}
 use Rattle.run.specs.declared.bindings.Binding.TheVariants.{Procedure}
 use Rattle.run.specs.declared.levels.Level.{Level}
-use Rattle.run.specs.Names.{Records, record-at, no_record, SameBelow}
+use Rattle.run.specs.Names.{Records, record_at, no_record, SameBelow}
 use Rattle.run.specs.Shapes.{ProcsBefore, back}
 use Rattle.run.specs.Levels.{level_at}
 use Rattle.run.specs.Machine.{ProceduresIn, Listed, head}
@@ -24,7 +24,7 @@ pub procedures_same : (ns : List Node) (ls : List ℕ) (rs rs' : Records) (M m p
 unfolding ProceduresIn
 procedures_same ns ls rs rs' M m p e zero q h d = tt
 procedures_same ns ls rs rs' M m p e (suc n) q h d =
-    let r : record-at rs' (m + n) ≡ record-at rs (m + n) = q (m + n) (omega arith) in
+    let r : record_at rs' (m + n) ≡ record_at rs (m + n) = q (m + n) (omega arith) in
     (rw r d.0, rw r d.1, rw r d.2, procedures_same ns ls rs rs' M m p (start_at ls (e - 1)) n q (omega arith) d.3)
 
 -- k of the n procedures that are listed from the level d on are recorded
@@ -55,7 +55,7 @@ declaring_more ns ls vs d n k rs m p rs₁ m₁ p₁ rs₂ m₂ p₂ x o lt h q 
     let i : ℕ = (level_at vs (d + k)).frame.at in
     let top : m₁ ≡ m + k = o.top in
     let er' : rs₂ ≡ set rs₁ (m + k) (linked (node_at ns (level_at vs (d + k)).frame.at).name (Procedure (level_at vs (d + k)).frame.at p) (head m p k)) = rw (top, q, o.seen) at er in
-    let here : record-at rs₂ (m + k) ≡ linked (node_at ns (level_at vs (d + k)).frame.at).name (Procedure (level_at vs (d + k)).frame.at p) (head m p k) = rw er' (get_or-set_same rs₁ (m + k) _ no_record (omega arith)) in
+    let here : record_at rs₂ (m + k) ≡ linked (node_at ns (level_at vs (d + k)).frame.at).name (Procedure (level_at vs (d + k)).frame.at p) (head m p k) = rw er' (get_or-set_same rs₁ (m + k) _ no_record (omega arith)) in
     record {
       older = rw er' (same_then rs rs₁ _ m o.older (same_set rs₁ (m + k) _ m (omega arith)));
       long = rw er' (length-set rs₁ (m + k) _ ∙ o.long);

@@ -73,13 +73,13 @@ block_goes L ns ls N rs rs₁ rs₂ P P' fs f σ σ' u u' p₁ sh g e q k v len�
     let same : SameBelow rs rs₂ m = same_then rs rs₁ rs₂ m same₁ (same_less rs₁ rs₂ M m (omega arith) same₂) in
     let len : length rs₂ ≡ length rs = len₂ ∙ len₁ in
     let variables₂ : VariablesIn ns s rs₂ m f.position a p₁ = variables_same ns s rs₁ rs₂ M m f.position a p₁ same₂ (omega arith) op.variables in
-    let linkedM : Linked rs₂ M = linked_same rs₁ rs₂ M M same₂ (omega arith) op.linked in
-    let linked₂ : Linked rs₂ (M + b) = procedures_linked ns ls rs₂ M p₁ within lo b pr linkedM in
+    let linked_m : Linked rs₂ M = linked_same rs₁ rs₂ M M same₂ (omega arith) op.linked in
+    let linked₂ : Linked rs₂ (M + b) = procedures_linked ns ls rs₂ M p₁ within lo b pr linked_m in
     let ok₀ : ProceduresOk ns ls rs₂ m = ok_same_below ns ls rs rs₂ m m same (omega arith) g'.0.linked g'.0.procedures in
-    let okM : ProceduresOk ns ls rs₂ M = variables_ok_more ns ls s rs₂ m f.position a p₁ variables₂ ok₀ in
-    let ok₂ : ProceduresOk ns ls rs₂ (M + b) = procedures_ok_more ns ls rs₂ M p₁ within lo b (omega arith) pr w.procedures okM in
+    let ok_m : ProceduresOk ns ls rs₂ M = variables_ok_more ns ls s rs₂ m f.position a p₁ variables₂ ok₀ in
+    let ok₂ : ProceduresOk ns ls rs₂ (M + b) = procedures_ok_more ns ls rs₂ M p₁ within lo b (omega arith) pr w.procedures ok_m in
     let w₀ : weights ls rs₂ f.position ≡ weights ls rs f.position = weights_same ls rs rs₂ m f.position same low in
-    let w₁ : weights ls rs₂ p₁ ≡ weights ls rs₂ f.position = variables_weigh ns ls s rs₂ m f.position a p₁ linkedM variables₂ in
+    let w₁ : weights ls rs₂ p₁ ≡ weights ls rs₂ f.position = variables_weigh ns ls s rs₂ m f.position a p₁ linked_m variables₂ in
     let w₂ : weights ls rs₂ p' + b + back ls lo b ≡ weights ls rs₂ p₁ + lo = procedures_weigh ns ls rs₂ M p₁ within lo b pr w.procedures in
     let plow : p' ≤ M + b = head_low M p₁ b within in
     let under : Good ns ls rs₂ N (M + b) fs = good_weaker ns ls rs₂ N m (M + b) fs (omega arith) (good_same ns ls rs rs₂ N m m fs len same (omega arith) g'.1) in
@@ -95,10 +95,10 @@ block_goes L ns ls N rs rs₁ rs₂ P P' fs f σ σ' u u' p₁ sh g e q k v len�
           let ds : List Decl = decls_at ns s a in
           let ps : Procs = procs_at ns ls F lo b pnil in
           let ks : List ℕ = locations_from rs₁ m a in
-          let same-locations : locations_from rs₂ m a ≡ ks = locations_same rs₁ rs₂ M m a same₂ (omega arith) in
+          let same_locations : locations_from rs₂ m a ≡ ks = locations_same rs₁ rs₂ M m a same₂ (omega arith) in
           let back₁ : M + b - (a + b) ≡ m = omega arith in
           let inner : env_at L ns ls F rs₂ p₁ ≡ placed ds ks ρ =
-          variables_env ns ls s rs₂ m f.position L F a p₁ linkedM variables₂ ∙ rw (same-locations, env_same L ns ls F rs rs₂ m f.position same low) refl in
+          variables_env ns ls s rs₂ m f.position L F a p₁ linked_m variables₂ ∙ rw (same_locations, env_same L ns ls F rs rs₂ m f.position same low) refl in
           let sees₂ : env_at L ns ls F rs₂ p' ≡ procedures L (placed ds ks ρ) ps (placed ds ks ρ) =
           sym (procedures_env ns ls rs₂ M p₁ within L F lo b pnil pr) ∙ rw inner refl in
           let ρ₂ : Env = env_at L ns ls F rs₂ p' in
@@ -108,7 +108,7 @@ block_goes L ns ls N rs rs₁ rs₂ P P' fs f σ σ' u u' p₁ sh g e q k v len�
           row_done L ns ls F rs₂ p' (M + b) i c (end_frame i p' (M + b) ∷ fs) cnil σ' u' o G
           (λ x y mono z. all_mono L ns ls F rs fs (y releasing ks) (x releasing ks) σ' σ' u' u' (λ r d. lift_releasing y x ks σ' σ' u' u' r mono d) o z)
           (λ d z.
-          let z₁ : all_after L ns ls F rs₂ fs (d releasing ks) σ' u' o = rw same-locations at (rw back₁ at z) in
+          let z₁ : all_after L ns ls F rs₂ fs (d releasing ks) σ' u' o = rw same_locations at (rw back₁ at z) in
           let z₂ : all_after L ns ls F rs fs (d releasing ks) σ' u' o = rw (all_same L ns ls F rs rs₂ N m m fs (d releasing ks) same (omega arith) g'.1) at z₁ in
           all_mono L ns ls F rs fs ((d >>= λ _. give tt) releasing ks) (d releasing ks) σ' σ' u' u'
           (λ r y. lift_releasing (d >>= λ _. give tt) d ks σ' σ' u' u' r (λ x y. row_end d σ' u' x y) y) o z₂)

@@ -10,7 +10,7 @@ use Rattle.language.specs.Runs.{Step, located}
 use Rattle.table.specs.Walk.{start_at}
 use Rattle.run.specs.declared.bindings.Binding.{Binding}
 use Rattle.run.specs.declared.bindings.Binding.TheVariants.{Place, Procedure}
-use Rattle.run.specs.Names.{Records, record-at, found, as_place, sees, Linked, weights, weight}
+use Rattle.run.specs.Names.{Records, record_at, found, as_place, sees, Linked, weights, weight}
 use Rattle.run.specs.Shapes.{Forest, kind_at}
 use Rattle.run.specs.Machine.{outcome, env_at, bound_of, env_in, ProceduresOk}
 use Rattle.run.proofs.Sights.{found_here, found_on, found_none, env_step, weights_step}
@@ -29,14 +29,14 @@ module _ (ns : List Node) (ls : List ℕ) (rs : Records) (M : ℕ) (n : M ≤ le
     looks_zero : (p : ℕ) → p ≤ 0 → Looks p
     looks_zero p h = rw (walk_none [] (env_in L ns ls F rs) p h, found_none rs p m h) refl
 
-    looks_some : (p : ℕ) → 0 < p → p ≤ M → Looks (record-at rs (p - 1)).next → (b : Bool) → same m (record-at rs (p - 1)).name ≡ b → Looks p
+    looks_some : (p : ℕ) → 0 < p → p ≤ M → Looks (record_at rs (p - 1)).next → (b : Bool) → same m (record_at rs (p - 1)).name ≡ b → Looks p
     looks_some p h k ih b q =
-        let low : (record-at rs (p - 1)).next ≤ p - 1 = l (p - 1) (omega arith) in
+        let low : (record_at rs (p - 1)).next ≤ p - 1 = l (p - 1) (omega arith) in
         let step = env_step L ns ls F rs p h low (λ i x e. (c (p - 1) (omega arith) i x e).seen) in
         go b q low step
       where
-        go : (b : Bool) → same m (record-at rs (p - 1)).name ≡ b → (record-at rs (p - 1)).next ≤ p - 1
-            → env_at L ns ls F rs p ≡ ((record-at rs (p - 1)).name, bound_of L ns ls F (env_at L ns ls F rs) (record-at rs (p - 1)).entry) ∷ env_at L ns ls F rs (record-at rs (p - 1)).next
+        go : (b : Bool) → same m (record_at rs (p - 1)).name ≡ b → (record_at rs (p - 1)).next ≤ p - 1
+            → env_at L ns ls F rs p ≡ ((record_at rs (p - 1)).name, bound_of L ns ls F (env_at L ns ls F rs) (record_at rs (p - 1)).entry) ∷ env_at L ns ls F rs (record_at rs (p - 1)).next
             → Looks p
         go true q low step = rw (step, q, found_here rs p m h (omega arith) low q) refl
         go false q low step = rw (step, q, found_on rs p m h (omega arith) low q) ih
@@ -46,8 +46,8 @@ module _ (ns : List Node) (ls : List ℕ) (rs : Records) (M : ℕ) (n : M ≤ le
     looks_fuel (suc fuel) zero h k = looks_zero zero (omega arith)
     looks_fuel (suc fuel) (suc n) h k =
         let e : suc n - 1 ≡ n = omega arith in
-        let low : (record-at rs (suc n - 1)).next ≤ suc n - 1 = l (suc n - 1) (omega arith) in
-        looks_some (suc n) (omega arith) k (looks_fuel fuel (record-at rs (suc n - 1)).next (omega arith) (omega arith)) (same m (record-at rs (suc n - 1)).name) refl
+        let low : (record_at rs (suc n - 1)).next ≤ suc n - 1 = l (suc n - 1) (omega arith) in
+        looks_some (suc n) (omega arith) k (looks_fuel fuel (record_at rs (suc n - 1)).next (omega arith) (omega arith)) (same m (record_at rs (suc n - 1)).name) refl
 
     pub looks : (p : ℕ) → p ≤ M → Looks p
     looks p h = looks_fuel p p (omega arith) h
@@ -72,23 +72,23 @@ module _ (ns : List Node) (ls : List ℕ) (rs : Records) (M : ℕ) (n : M ≤ le
     pub seen : q ≤ M
     pub weight : (i - start_at ls i) + weights ls rs q ≤ weights ls rs p
 
-  finds_some : (m p i q : ℕ) → 0 < p → p ≤ M → (found rs (record-at rs (p - 1)).next m ≡ Some (Procedure i q) → Finds (record-at rs (p - 1)).next i q)
-      → (b : Bool) → same m (record-at rs (p - 1)).name ≡ b → found rs p m ≡ Some (Procedure i q) → Finds p i q
+  finds_some : (m p i q : ℕ) → 0 < p → p ≤ M → (found rs (record_at rs (p - 1)).next m ≡ Some (Procedure i q) → Finds (record_at rs (p - 1)).next i q)
+      → (b : Bool) → same m (record_at rs (p - 1)).name ≡ b → found rs p m ≡ Some (Procedure i q) → Finds p i q
   finds_some m p i q h k ih true b f =
-      let low : (record-at rs (p - 1)).next ≤ p - 1 = l (p - 1) (omega arith) in
-      let s : Some (record-at rs (p - 1)).entry ≡ Some (Procedure i q) = sym (found_here rs p m h (omega arith) low b) ∙ f in
-      let w : (record-at rs (p - 1)).entry ≡ Procedure i q = cc in
+      let low : (record_at rs (p - 1)).next ≤ p - 1 = l (p - 1) (omega arith) in
+      let s : Some (record_at rs (p - 1)).entry ≡ Some (Procedure i q) = sym (found_here rs p m h (omega arith) low b) ∙ f in
+      let w : (record_at rs (p - 1)).entry ≡ Procedure i q = cc in
       let ok = c (p - 1) (omega arith) i q w in
-      let ws : weights ls rs p ≡ weight ls (record-at rs (p - 1)).entry + weights ls rs (record-at rs (p - 1)).next = weights_step ls rs p h low in
-      let ww : weight ls (record-at rs (p - 1)).entry ≡ i - start_at ls i = rw w refl in
-      let le : weights ls rs q ≤ weights ls rs (record-at rs (p - 1)).next = ok.weight in
+      let ws : weights ls rs p ≡ weight ls (record_at rs (p - 1)).entry + weights ls rs (record_at rs (p - 1)).next = weights_step ls rs p h low in
+      let ww : weight ls (record_at rs (p - 1)).entry ≡ i - start_at ls i = rw w refl in
+      let le : weights ls rs q ≤ weights ls rs (record_at rs (p - 1)).next = ok.weight in
       let sn : q ≤ p - 1 = ok.seen in
       record { at = ok.at; kind = ok.kind; seen = omega arith; weight = omega arith }
   finds_some m p i q h k ih false b f =
-      let low : (record-at rs (p - 1)).next ≤ p - 1 = l (p - 1) (omega arith) in
+      let low : (record_at rs (p - 1)).next ≤ p - 1 = l (p - 1) (omega arith) in
       let r = ih (sym (found_on rs p m h (omega arith) low b) ∙ f) in
-      let ws : weights ls rs p ≡ weight ls (record-at rs (p - 1)).entry + weights ls rs (record-at rs (p - 1)).next = weights_step ls rs p h low in
-      let le : (i - start_at ls i) + weights ls rs q ≤ weights ls rs (record-at rs (p - 1)).next = r.weight in
+      let ws : weights ls rs p ≡ weight ls (record_at rs (p - 1)).entry + weights ls rs (record_at rs (p - 1)).next = weights_step ls rs p h low in
+      let le : (i - start_at ls i) + weights ls rs q ≤ weights ls rs (record_at rs (p - 1)).next = r.weight in
       record { at = r.at; kind = r.kind; seen = r.seen; weight = omega arith }
 
   finds_fuel : (m i q fuel p : ℕ) → p ≤ fuel → p ≤ M → found rs p m ≡ Some (Procedure i q) → Finds p i q
@@ -99,8 +99,8 @@ module _ (ns : List Node) (ls : List ℕ) (rs : Records) (M : ℕ) (n : M ≤ le
       let s : None ≡ Some (Procedure i q) = sym (found_none rs zero m (omega arith)) ∙ f in
       let z : ◌≡◌ {A = ℕ} 0 1 = cc in absurd (omega arith)
   finds_fuel m i q (suc fuel) (suc n) h k f =
-      let low : (record-at rs (suc n - 1)).next ≤ suc n - 1 = l (suc n - 1) (omega arith) in
-      finds_some m (suc n) i q (omega arith) k (finds_fuel m i q fuel (record-at rs (suc n - 1)).next (omega arith) (omega arith)) (same m (record-at rs (suc n - 1)).name) refl f
+      let low : (record_at rs (suc n - 1)).next ≤ suc n - 1 = l (suc n - 1) (omega arith) in
+      finds_some m (suc n) i q (omega arith) k (finds_fuel m i q fuel (record_at rs (suc n - 1)).next (omega arith) (omega arith)) (same m (record_at rs (suc n - 1)).name) refl f
 
   pub finds : (m p i q : ℕ) → p ≤ M → found rs p m ≡ Some (Procedure i q) → Finds p i q
   finds m p i q h f = finds_fuel m i q p p (omega arith) h f

@@ -16,7 +16,7 @@ use Rattle.store.specs.Calls.{Taken, release_answer}
 use Rattle.store.specs.declared.Dead.{Dead}
 use Rattle.table.specs.Stretches.{node_at}
 use Rattle.run.specs.declared.bindings.Binding.TheVariants.{Place}
-use Rattle.run.specs.Names.{Records, record-at, no_record, sees, as_place, Linked, SameBelow, locations_from, location_of}
+use Rattle.run.specs.Names.{Records, record_at, no_record, sees, as_place, Linked, SameBelow, locations_from, location_of}
 use Rattle.run.specs.Evaluation.{Locator}
 use Rattle.run.specs.Shapes.{row, decls_at, args_at, decl_at, arg_at}
 use Rattle.run.specs.Machine.{Open, VariablesIn, Bind, args_located}
@@ -36,15 +36,15 @@ pub variables_same : (ns : List Node) (s : ℕ) (rs rs' : Records) (M m p n p' :
 unfolding VariablesIn
 variables_same ns s rs rs' M m p zero p' q h d = d
 variables_same ns s rs rs' M m p (suc n) p' q h d =
-    let e : record-at rs' (m + n) ≡ record-at rs (m + n) = q (m + n) (omega arith) in
-    (d.0, rw e d.1, rw e d.2, variables_same ns s rs rs' M m p n (record-at rs' (m + n)).next q (omega arith) (rw e d.3))
+    let e : record_at rs' (m + n) ≡ record_at rs (m + n) = q (m + n) (omega arith) in
+    (d.0, rw e d.1, rw e d.2, variables_same ns s rs rs' M m p n (record_at rs' (m + n)).next q (omega arith) (rw e d.3))
 
 -- one more variable
 module _ (ns : List Node) (s k : ℕ) (rs : Records) (m p p₁ l : ℕ) (w : p₁ ≤ m + k) (h : m + k < length rs) where
   abbrev pub more : Records
   more = set rs (m + k) (linked (node_at ns (s + k)).name (Place l) p₁)
 
-  at_more : record-at more (m + k) ≡ linked (node_at ns (s + k)).name (Place l) p₁
+  at_more : record_at more (m + k) ≡ linked (node_at ns (s + k)).name (Place l) p₁
   at_more = get_or-set_same rs (m + k) (linked (node_at ns (s + k)).name (Place l) p₁) no_record h
 
   same_more : SameBelow rs more (m + k)
@@ -139,7 +139,7 @@ released l σ σ' u e k = rw k (released_as l σ u (σ l) refl e)
 pub not_released : (l : ℕ) (σ σ' : Memory) (u : ℕ) (d : Dead) → Err d ≡ release_answer (σ l) → σ' ≡ σ → release l σ u (stopped Stuck σ')
 not_released l σ σ' u d e k = rw k (not_released_as l σ u (σ l) d refl e)
 
-pub close_more : (rs : Records) (m k : ℕ) (σ : Memory) (u : ℕ) (σ₁ σ₂ : Memory) (l : ℕ) → m ≤ k → l ≡ location_of (record-at rs k).entry
+pub close_more : (rs : Records) (m k : ℕ) (σ : Memory) (u : ℕ) (σ₁ σ₂ : Memory) (l : ℕ) → m ≤ k → l ≡ location_of (record_at rs k).entry
     → release_all (locations_from rs m (k - m)) σ u (ended tt σ₁ u) → release l σ₁ u (ended tt σ₂ u) → release_all (locations_from rs m (k + 1 - m)) σ u (ended tt σ₂ u)
 unfolding locations_from
 close_more rs m k σ u σ₁ σ₂ l h e r t =
@@ -147,7 +147,7 @@ close_more rs m k σ u σ₁ σ₂ l h e r t =
     let q : m + (k - m) ≡ k = omega arith in
     rw (n, q, ← e) (release_snoc (locations_from rs m (k - m)) l σ u σ₁ u (ended tt σ₂ u) r t)
 
-pub close_stop : (rs : Records) (m k end : ℕ) (σ : Memory) (u : ℕ) (σ₁ σ₂ : Memory) (l : ℕ) → m ≤ k → k < end → l ≡ location_of (record-at rs k).entry
+pub close_stop : (rs : Records) (m k end : ℕ) (σ : Memory) (u : ℕ) (σ₁ σ₂ : Memory) (l : ℕ) → m ≤ k → k < end → l ≡ location_of (record_at rs k).entry
     → release_all (locations_from rs m (k - m)) σ u (ended tt σ₁ u) → release l σ₁ u (stopped Stuck σ₂) → release_all (locations_from rs m (end - m)) σ u (stopped Stuck σ₂)
 unfolding locations_from
 close_stop rs m k end σ u σ₁ σ₂ l h lt e r t =

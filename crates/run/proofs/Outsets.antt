@@ -12,19 +12,19 @@ use Rattle.scope.specs.declared.Record.{Record}
 use Rattle.table.specs.Measured.{Lengths}
 use Rattle.run.specs.declared.bindings.Binding.{Binding}
 use Rattle.run.specs.declared.bindings.Binding.TheVariants.{Place, Procedure}
-use Rattle.run.specs.Names.{Records, record-at, no_record, walk, weights}
+use Rattle.run.specs.Names.{Records, record_at, no_record, walk, weights}
 use Rattle.run.specs.Shapes.{Forest}
 use Rattle.run.specs.Machine.{env_at, ProceduresOk, Ran}
 use Rattle.run.specs.Parts.{outset_records, Outset, units_left, whole_command}
 use Rattle.run.proofs.Standing.{standing}
 
 module _ (rs : Records) (i o : ℕ) (h : 2 ≤ length rs) where
-  first : record-at (outset_records rs i o) 0 ≡ linked 0 (Place i) 0
+  first : record_at (outset_records rs i o) 0 ≡ linked 0 (Place i) 0
   first =
       let ne : 0 ≢ 1 = omega arith in
       get_or-set_other (set rs 0 (linked 0 (Place i) 0)) 1 0 _ no_record ne ∙ get_or-set_same rs 0 _ no_record (omega arith)
 
-  second : record-at (outset_records rs i o) 1 ≡ linked 1 (Place o) 1
+  second : record_at (outset_records rs i o) 1 ≡ linked 1 (Place o) 1
   second =
       let n : length (set rs 0 (linked 0 (Place i) 0)) ≡ length rs = length-set rs 0 _ in
       get_or-set_same (set rs 0 (linked 0 (Place i) 0)) 1 _ no_record (omega arith)
@@ -32,8 +32,8 @@ module _ (rs : Records) (i o : ℕ) (h : 2 ≤ length rs) where
   outset_length : length (outset_records rs i o) ≡ length rs
   outset_length = length-set (set rs 0 (linked 0 (Place i) 0)) 1 _ ∙ length-set rs 0 _
 
-  no_procedure : (k : ℕ) (r : Record Binding) (l j p : ℕ) → record-at (outset_records rs i o) k ≡ r → r.entry ≡ Place l
-      → (record-at (outset_records rs i o) k).entry ≡ Procedure j p → ⊥
+  no_procedure : (k : ℕ) (r : Record Binding) (l j p : ℕ) → record_at (outset_records rs i o) k ≡ r → r.entry ≡ Place l
+      → (record_at (outset_records rs i o) k).entry ≡ Procedure j p → ⊥
   no_procedure k r l j p e f w =
       let x : Place l ≡ Procedure j p = sym f ∙ ap (λ (r : Record Binding). r.entry) (sym e) ∙ w in
       let z : ◌≡◌ {A = ℕ} 0 1 = cc in

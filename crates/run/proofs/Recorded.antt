@@ -8,7 +8,7 @@ use Rattle.language.specs.Runs.{procedures}
 use Rattle.table.specs.Stretches.{node_at}
 use Rattle.table.specs.Walk.{start_at}
 use Rattle.run.specs.declared.bindings.Binding.TheVariants.{Place, Procedure}
-use Rattle.run.specs.Names.{Records, record-at, Linked, SameBelow, weights, weight, locations_from, location_of}
+use Rattle.run.specs.Names.{Records, record_at, Linked, SameBelow, weights, weight, locations_from, location_of}
 use Rattle.run.specs.Shapes.{Forest, back, row, procs_at, decls_at, decl_at, ProcsBefore}
 use Rattle.run.specs.Machine.{ProceduresIn, VariablesIn, head, env_at, bound_of, ProceduresOk, ProcedureOk}
 use Rattle.run.proofs.Sights.{env_step, weights_step, weights_same, length_locations}
@@ -22,7 +22,7 @@ module _ (ns : List Node) (ls : List ℕ) (rs : Records) (m p : ℕ) (pm : p ≤
   procedures_linked e zero d l k lt = l k (omega arith)
   procedures_linked e (suc n) d l k lt = go (eqb k (m + n)) refl (procedures_linked (start_at ls (e - 1)) n d.3 l k)
     where
-      go : (b : Bool) → eqb k (m + n) ≡ b → (k < m + n → (record-at rs k).next ≤ k) → (record-at rs k).next ≤ k
+      go : (b : Bool) → eqb k (m + n) ≡ b → (k < m + n → (record_at rs k).next ≤ k) → (record_at rs k).next ≤ k
       go true q r =
           let z : k ≡ m + n = eqb-true k (m + n) q in
           let le : head m p n ≤ m + n = head_low m p n pm in
@@ -36,8 +36,8 @@ module _ (ns : List Node) (ls : List ℕ) (rs : Records) (m p : ℕ) (pm : p ≤
   procedures_env L F e (suc n) ps d =
       let back₁ : m + suc n - 1 ≡ m + n = omega arith in
       let le : head m p n ≤ m + n = head_low m p n pm in
-      let low : (record-at rs (m + suc n - 1)).next ≤ m + suc n - 1 = rw (back₁, d.2) le in
-      let seen : (i q : ℕ) → (record-at rs (m + suc n - 1)).entry ≡ Procedure i q → q ≤ m + suc n - 1 = λ i q w.
+      let low : (record_at rs (m + suc n - 1)).next ≤ m + suc n - 1 = rw (back₁, d.2) le in
+      let seen : (i q : ℕ) → (record_at rs (m + suc n - 1)).entry ≡ Procedure i q → q ≤ m + suc n - 1 = λ i q w.
       let w' : Procedure (e - 1) p ≡ Procedure i q = sym d.1 ∙ (rw back₁ at w) in
       let same : q ≡ p = cc in
       omega arith in
@@ -52,7 +52,7 @@ module _ (ns : List Node) (ls : List ℕ) (rs : Records) (m p : ℕ) (pm : p ≤
   procedures_weigh e (suc n) d c =
       let back₁ : m + suc n - 1 ≡ m + n = omega arith in
       let le : head m p n ≤ m + n = head_low m p n pm in
-      let low : (record-at rs (m + suc n - 1)).next ≤ m + suc n - 1 = rw (back₁, d.2) le in
+      let low : (record_at rs (m + suc n - 1)).next ≤ m + suc n - 1 = rw (back₁, d.2) le in
       let ws : weights ls rs (m + suc n) ≡ (e - 1 - start_at ls (e - 1)) + weights ls rs (head m p n) = rw (d.1, d.2) at (rw back₁ at (weights_step ls rs (m + suc n) (omega arith) low)) in
       let one : 1 ≤ e = c.0 in
       let lt : start_at ls (e - 1) < e = c.2 in
@@ -65,7 +65,7 @@ module _ (ns : List Node) (ls : List ℕ) (rs : Records) (m p : ℕ) (pm : p ≤
   procedures_more e (suc n) d =
       let back₁ : m + suc n - 1 ≡ m + n = omega arith in
       let le : head m p n ≤ m + n = head_low m p n pm in
-      let low : (record-at rs (m + suc n - 1)).next ≤ m + suc n - 1 = rw (back₁, d.2) le in
+      let low : (record_at rs (m + suc n - 1)).next ≤ m + suc n - 1 = rw (back₁, d.2) le in
       let ws : weights ls rs (m + suc n) ≡ (e - 1 - start_at ls (e - 1)) + weights ls rs (head m p n) = rw (d.1, d.2) at (rw back₁ at (weights_step ls rs (m + suc n) (omega arith) low)) in
       let ih : weights ls rs p ≤ weights ls rs (head m p n) = procedures_more (start_at ls (e - 1)) n d.3 in
       omega arith
@@ -75,16 +75,16 @@ module _ (ns : List Node) (ls : List ℕ) (rs : Records) (m p : ℕ) (pm : p ≤
   procedures_ok_more e zero h d c r k lt i q w = r k (omega arith) i q w
   procedures_ok_more e (suc n) h d c r k lt i q w = go (eqb k (m + n)) refl (procedures_ok_more (start_at ls (e - 1)) n (omega (arith, c.2)) d.3 c.3 r k)
     where
-      go : (b : Bool) → eqb k (m + n) ≡ b → (k < m + n → (i q : ℕ) → (record-at rs k).entry ≡ Procedure i q → ProcedureOk ns ls rs k i q) → ProcedureOk ns ls rs k i q
+      go : (b : Bool) → eqb k (m + n) ≡ b → (k < m + n → (i q : ℕ) → (record_at rs k).entry ≡ Procedure i q → ProcedureOk ns ls rs k i q) → ProcedureOk ns ls rs k i q
       go true y x =
           let z : k ≡ m + n = eqb-true k (m + n) y in
           let w' : Procedure (e - 1) p ≡ Procedure i q = sym d.1 ∙ (rw z at w) in
-          let same-i : i ≡ e - 1 = cc in
-          let same-q : q ≡ p = cc in
+          let same_i : i ≡ e - 1 = cc in
+          let same_q : q ≡ p = cc in
           let one : 1 ≤ e = c.0 in
           let ok : ProcedureOk ns ls rs (m + n) (e - 1) p =
           record { at = omega arith; kind = c.1; seen = omega arith; weight = rw d.2 (procedures_more (start_at ls (e - 1)) n d.3) } in
-          rw (z, same-i, same-q) ok
+          rw (z, same_i, same_q) ok
       go false y x = let z : k ≢ m + n = eqb-false k (m + n) y in x (omega arith) i q w
 
 -- the variables of a block or the formals of a call, recorded
@@ -95,50 +95,50 @@ module _ (ns : List Node) (ls : List ℕ) (s : ℕ) (rs : Records) (m p : ℕ) w
   variables_env L F zero p' l d = rw d refl
   variables_env L F (suc n) p' l d =
       let back₁ : m + n + 1 - 1 ≡ m + n = omega arith in
-      let low₀ : (record-at rs (m + n)).next ≤ m + n = l (m + n) (omega arith) in
-      let low : (record-at rs (m + n + 1 - 1)).next ≤ m + n + 1 - 1 = rw back₁ low₀ in
-      let seen : (i q : ℕ) → (record-at rs (m + n + 1 - 1)).entry ≡ Procedure i q → q ≤ m + n + 1 - 1 = λ i q w.
-      let w' : Place (location_of (record-at rs (m + n)).entry) ≡ Procedure i q = sym d.2 ∙ (rw back₁ at w) in
+      let low₀ : (record_at rs (m + n)).next ≤ m + n = l (m + n) (omega arith) in
+      let low : (record_at rs (m + n + 1 - 1)).next ≤ m + n + 1 - 1 = rw back₁ low₀ in
+      let seen : (i q : ℕ) → (record_at rs (m + n + 1 - 1)).entry ≡ Procedure i q → q ≤ m + n + 1 - 1 = λ i q w.
+      let w' : Place (location_of (record_at rs (m + n)).entry) ≡ Procedure i q = sym d.2 ∙ (rw back₁ at w) in
       let z : ◌≡◌ {A = ℕ} 0 1 = cc in absurd (omega arith) in
       let step = rw back₁ at (env_step L ns ls F rs (m + n + 1) (omega arith) low seen) in
-      let bound : bound_of L ns ls F (env_at L ns ls F rs) (record-at rs (m + n)).entry ≡ place (location_of (record-at rs (m + n)).entry) =
+      let bound : bound_of L ns ls F (env_at L ns ls F rs) (record_at rs (m + n)).entry ≡ place (location_of (record_at rs (m + n)).entry) =
       ap (bound_of L ns ls F (env_at L ns ls F rs)) d.2 in
       let lens : length (decls_at ns s n) ≡ length (locations_from rs m n) = length_row decl_at ns s n ∙ sym (length_locations rs m n) in
-      let ih = variables_env L F n (record-at rs (m + n)).next (λ k lt. l k (omega arith)) d.3 in
-      let step' : env_at L ns ls F rs (m + n + 1) ≡ ((node_at ns (s + n)).name, place (location_of (record-at rs (m + n)).entry)) ∷ placed (decls_at ns s n) (locations_from rs m n) (env_at L ns ls F rs p)
+      let ih = variables_env L F n (record_at rs (m + n)).next (λ k lt. l k (omega arith)) d.3 in
+      let step' : env_at L ns ls F rs (m + n + 1) ≡ ((node_at ns (s + n)).name, place (location_of (record_at rs (m + n)).entry)) ∷ placed (decls_at ns s n) (locations_from rs m n) (env_at L ns ls F rs p)
       = rw (d.1, bound, ih) at step in
-      rw d.0 (step' ∙ sym (placed_snoc (decls_at ns s n) (locations_from rs m n) (decl_at ns (s + n)) (location_of (record-at rs (m + n)).entry) (env_at L ns ls F rs p) lens))
+      rw d.0 (step' ∙ sym (placed_snoc (decls_at ns s n) (locations_from rs m n) (decl_at ns (s + n)) (location_of (record_at rs (m + n)).entry) (env_at L ns ls F rs p) lens))
 
   pub variables_weigh : (n p' : ℕ) → Linked rs (m + n) → VariablesIn ns s rs m p n p' → weights ls rs p' ≡ weights ls rs p
   unfolding VariablesIn
   variables_weigh zero p' l d = rw d refl
   variables_weigh (suc n) p' l d =
       let back₁ : m + n + 1 - 1 ≡ m + n = omega arith in
-      let low₀ : (record-at rs (m + n)).next ≤ m + n = l (m + n) (omega arith) in
-      let low : (record-at rs (m + n + 1 - 1)).next ≤ m + n + 1 - 1 = rw back₁ low₀ in
-      let ws : weights ls rs (m + n + 1) ≡ weight ls (record-at rs (m + n)).entry + weights ls rs (record-at rs (m + n)).next = rw back₁ at (weights_step ls rs (m + n + 1) (omega arith) low) in
-      let no : weight ls (record-at rs (m + n)).entry ≡ 0 = ap (weight ls) d.2 in
-      let ih : weights ls rs (record-at rs (m + n)).next ≡ weights ls rs p = variables_weigh n (record-at rs (m + n)).next (λ k lt. l k (omega arith)) d.3 in
+      let low₀ : (record_at rs (m + n)).next ≤ m + n = l (m + n) (omega arith) in
+      let low : (record_at rs (m + n + 1 - 1)).next ≤ m + n + 1 - 1 = rw back₁ low₀ in
+      let ws : weights ls rs (m + n + 1) ≡ weight ls (record_at rs (m + n)).entry + weights ls rs (record_at rs (m + n)).next = rw back₁ at (weights_step ls rs (m + n + 1) (omega arith) low) in
+      let no : weight ls (record_at rs (m + n)).entry ≡ 0 = ap (weight ls) d.2 in
+      let ih : weights ls rs (record_at rs (m + n)).next ≡ weights ls rs p = variables_weigh n (record_at rs (m + n)).next (λ k lt. l k (omega arith)) d.3 in
       rw d.0 (omega arith)
 
   pub variables_ok_more : (n p' : ℕ) → VariablesIn ns s rs m p n p' → ProceduresOk ns ls rs m → ProceduresOk ns ls rs (m + n)
   unfolding VariablesIn
   variables_ok_more zero p' d r k lt i q w = r k (omega arith) i q w
-  variables_ok_more (suc n) p' d r k lt i q w = go (eqb k (m + n)) refl (variables_ok_more n (record-at rs (m + n)).next d.3 r k)
+  variables_ok_more (suc n) p' d r k lt i q w = go (eqb k (m + n)) refl (variables_ok_more n (record_at rs (m + n)).next d.3 r k)
     where
-      go : (b : Bool) → eqb k (m + n) ≡ b → (k < m + n → (i q : ℕ) → (record-at rs k).entry ≡ Procedure i q → ProcedureOk ns ls rs k i q) → ProcedureOk ns ls rs k i q
+      go : (b : Bool) → eqb k (m + n) ≡ b → (k < m + n → (i q : ℕ) → (record_at rs k).entry ≡ Procedure i q → ProcedureOk ns ls rs k i q) → ProcedureOk ns ls rs k i q
       go true y x =
           let z : k ≡ m + n = eqb-true k (m + n) y in
-          let w' : Place (location_of (record-at rs (m + n)).entry) ≡ Procedure i q = sym d.2 ∙ (rw z at w) in
+          let w' : Place (location_of (record_at rs (m + n)).entry) ≡ Procedure i q = sym d.2 ∙ (rw z at w) in
           let e : ◌≡◌ {A = ℕ} 0 1 = cc in absurd (omega arith)
       go false y x = let z : k ≢ m + n = eqb-false k (m + n) y in x (omega arith) i q w
 
 pub ok_same_below : (ns : List Node) (ls : List ℕ) (rs rs' : Records) (M n : ℕ) → SameBelow rs rs' M → n ≤ M → Linked rs n → ProceduresOk ns ls rs n → ProceduresOk ns ls rs' n
 ok_same_below ns ls rs rs' M n same h l r k lt i q w =
-    let e : record-at rs' k ≡ record-at rs k = same k (omega arith) in
+    let e : record_at rs' k ≡ record_at rs k = same k (omega arith) in
     let ok = r k lt i q (rw e at w) in
     let sn : q ≤ k = ok.seen in
-    let low : (record-at rs k).next ≤ k = l k lt in
+    let low : (record_at rs k).next ≤ k = l k lt in
     let wq : weights ls rs' q ≡ weights ls rs q = weights_same ls rs rs' M q same (omega arith) in
-    let wl : weights ls rs' (record-at rs k).next ≡ weights ls rs (record-at rs k).next = weights_same ls rs rs' M (record-at rs k).next same (omega arith) in
+    let wl : weights ls rs' (record_at rs k).next ≡ weights ls rs (record_at rs k).next = weights_same ls rs rs' M (record_at rs k).next same (omega arith) in
     record { at = ok.at; kind = ok.kind; seen = sn; weight = rw (e, wq, wl) ok.weight }

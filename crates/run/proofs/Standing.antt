@@ -440,9 +440,9 @@ module _ (ns : List Node) (ls : List ℕ) (F : Forest) where
           let r₂ = procs_laws ps (s + length ds) h.5 (s + length ds + size_procs ps) refl a₂ in
           let r₃ = coms_laws cs (s + length ds + size_procs ps) h.6 i w a₃ in
           let f : F.tree i ≡ block i ds ps cs = com_here i _ w p₃ in
-          let rows-p = subst (λ (n : ℕ). ProcsRow (s + length ds) (s + length ds + size_procs ps) n ps) b r₂.1 in
-          let rows-c = subst (λ (n : ℕ). ComsRow (s + length ds + size_procs ps) i n cs) c r₃.1 in
-          done (then (then r₁.0 r₂.0) r₃.0) z (block_law z a refl r₁.1 rows-p rows-c f) tt f
+          let rows_p = subst (λ (n : ℕ). ProcsRow (s + length ds) (s + length ds + size_procs ps) n ps) b r₂.1 in
+          let rows_c = subst (λ (n : ℕ). ComsRow (s + length ds + size_procs ps) i n cs) c r₃.1 in
+          done (then (then r₁.0 r₂.0) r₃.0) z (block_law z a refl r₁.1 rows_p rows_c f) tt f
 
       procs_laws : (ps : Procs) (s : ℕ) → ProcsAt ns ls 0 s ps → (e : ℕ) → e ≡ s + size_procs ps → Both ns all s (spell_procs ps) (ended_procs ps)
           → Every s e × ProcsRow s e (how_many_procs ps) ps

@@ -155,8 +155,8 @@ read_parts ns c need e =
     let (d, p, e₁) = bind_ok (build ns) (λ d. R.◌>>=◌ (check_rule d) (λ n. Ok (d, n))) (c, need) e in
     let (n, q, e₂) = bind_ok (check_rule d) (λ n. Ok (d, n)) (c, need) e₁ in
     let same : d ≡ c = ap (λ (x : Com × ℕ). x.0) (ok_is e₂) in
-    let need-is : n ≡ need = ap (λ (x : Com × ℕ). x.1) (ok_is e₂) in
-    (p ∙ ap Ok same, ap check_rule (sym same) ∙ q ∙ ap Ok need-is)
+    let need_is : n ≡ need = ap (λ (x : Com × ℕ). x.1) (ok_is e₂) in
+    (p ∙ ap Ok same, ap check_rule (sym same) ∙ q ∙ ap Ok need_is)
 
 -- ---- the two questions
 both_asked : (b d : Bool) (e f : Fault) (x : Unit {0}) → Ok x ≡ R.◌>>=◌ (asked b e) (λ _. asked d f) → (b ≡ true) × (d ≡ true)

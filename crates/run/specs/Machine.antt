@@ -19,7 +19,7 @@ use Rattle.run.specs.declared.levels.State.{State}
 use Rattle.run.specs.declared.levels.State.TheVariants.{Run, End}
 use Rattle.run.specs.declared.machine.Left.{Left}
 use Rattle.run.specs.Shapes.{kind_at, ComKind, Shaped, Forest, Trees, decls_at, args_at, back}
-use Rattle.run.specs.Names.{Records, record-at, walk, Linked, locations_from, location_of, weights, sees}
+use Rattle.run.specs.Names.{Records, record_at, walk, Linked, locations_from, location_of, weights, sees}
 use Rattle.run.specs.Levels.{frames, level_at}
 use Rattle.run.specs.Evaluation.{Locator}
 
@@ -37,7 +37,7 @@ module _ (limit : ℕ) (ns : List Node) (ls : List ℕ) (F : Forest) where
       (λ xs. does limit (placed (decls_at ns (start_at ls i) (node_at ns i).a) xs (on p)) (F.tree (i - 1)))
 
   abbrev pub env_in : Records → ℕ → (ℕ → Env) → Env
-  env_in rs k on = ((record-at rs k).name, bound_of on (record-at rs k).entry) ∷ on (record-at rs k).next
+  env_in rs k on = ((record_at rs k).name, bound_of on (record_at rs k).entry) ∷ on (record_at rs k).next
 
   -- what the names in sight from a position stand for
   abbrev pub env_at : Records → ℕ → Env
@@ -73,9 +73,9 @@ unfoldable pub VariablesIn : List Node → ℕ → Records → ℕ → ℕ → �
 VariablesIn ns s rs m p zero p' = p' ≡ p
 VariablesIn ns s rs m p (suc n) p' =
     (p' ≡ m + n + 1)
-    × ((record-at rs (m + n)).name ≡ (node_at ns (s + n)).name)
-    × ((record-at rs (m + n)).entry ≡ Place (location_of (record-at rs (m + n)).entry))
-    × VariablesIn ns s rs m p n (record-at rs (m + n)).next
+    × ((record_at rs (m + n)).name ≡ (node_at ns (s + n)).name)
+    × ((record_at rs (m + n)).entry ≡ Place (location_of (record_at rs (m + n)).entry))
+    × VariablesIn ns s rs m p n (record_at rs (m + n)).next
 
 -- a block's variables were taken and recorded
 pub record Open (limit : ℕ) (ns : List Node) (s n m p : ℕ) (σ : Memory) (rs' : Records) (σ' : Memory) (p' : ℕ) : Type 0 where
@@ -132,9 +132,9 @@ head m p (suc n) = m + suc n
 unfoldable pub ProceduresIn : List Node → List ℕ → Records → ℕ → ℕ → ℕ → ℕ → Type 0
 ProceduresIn ns ls rs m p e zero = Unit {0}
 ProceduresIn ns ls rs m p e (suc n) =
-    ((record-at rs (m + n)).name ≡ (node_at ns (e - 1)).name)
-    × ((record-at rs (m + n)).entry ≡ Procedure (e - 1) p)
-    × ((record-at rs (m + n)).next ≡ head m p n)
+    ((record_at rs (m + n)).name ≡ (node_at ns (e - 1)).name)
+    × ((record_at rs (m + n)).entry ≡ Procedure (e - 1) p)
+    × ((record_at rs (m + n)).next ≡ head m p n)
     × ProceduresIn ns ls rs m p (start_at ls (e - 1)) n
 
 -- a procedure that is recorded sees from before its record, and no more than its record does
@@ -142,10 +142,10 @@ pub record ProcedureOk (ns : List Node) (ls : List ℕ) (rs : Records) (k i p : 
   pub at : i < length ns
   pub kind : kind_at ns i ≡ Some Proc
   pub seen : p ≤ k
-  pub weight : weights ls rs p ≤ weights ls rs (record-at rs k).next
+  pub weight : weights ls rs p ≤ weights ls rs (record_at rs k).next
 
 abbrev pub ProceduresOk : List Node → List ℕ → Records → ℕ → Type 0
-ProceduresOk ns ls rs n = (k : ℕ) → k < n → (i p : ℕ) → (record-at rs k).entry ≡ Procedure i p → ProcedureOk ns ls rs k i p
+ProceduresOk ns ls rs n = (k : ℕ) → k < n → (i p : ℕ) → (record_at rs k).entry ≡ Procedure i p → ProcedureOk ns ls rs k i p
 
 -- how much a command can still put on the stack and among the records
 abbrev pub weighs : List ℕ → Records → ℕ → ℕ → ℕ

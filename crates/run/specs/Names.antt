@@ -15,8 +15,8 @@ Records = List (Record Binding)
 abbrev pub no_record : Record Binding
 no_record = record { name = 0; entry = Place 0; next = 0 }
 
-abbrev pub record-at : Records → ℕ → Record Binding
-record-at rs k = get_or rs k no_record
+abbrev pub record_at : Records → ℕ → Record Binding
+record_at rs k = get_or rs k no_record
 
 -- what the name stands for, seen from a position
 abbrev pub found : Records → ℕ → ℕ → Option Binding
@@ -38,11 +38,11 @@ sees rs p m = as_place (found rs p m)
 
 -- the first n records are linked to earlier positions
 abbrev pub Linked : Records → ℕ → Type 0
-Linked rs n = (k : ℕ) → k < n → (record-at rs k).next ≤ k
+Linked rs n = (k : ℕ) → k < n → (record_at rs k).next ≤ k
 
 -- the records below m are the same
 abbrev pub SameBelow : Records → Records → ℕ → Type 0
-SameBelow rs rs' m = (k : ℕ) → k < m → record-at rs' k ≡ record-at rs k
+SameBelow rs rs' m = (k : ℕ) → k < m → record_at rs' k ≡ record_at rs k
 
 -- of a variable, its location
 abbrev pub location_of : Binding → ℕ
@@ -56,7 +56,7 @@ location_bound (Some b) = location_of b
 -- the locations of the n variables recorded from m on
 unfoldable pub locations_from : Records → ℕ → ℕ → List ℕ
 locations_from rs m zero = []
-locations_from rs m (suc n) = locations_from rs m n ++ (location_of (record-at rs (m + n)).entry ∷ [])
+locations_from rs m (suc n) = locations_from rs m n ++ (location_of (record_at rs (m + n)).entry ∷ [])
 
 -- along the links from a position, over the first n records
 unfoldable pub walk {ℓ} : {A : Type ℓ} → A → (ℕ → (ℕ → A) → A) → ℕ → ℕ → A
@@ -69,7 +69,7 @@ weight ls (Place l) = 0
 weight ls (Procedure i p) = i - start_at ls i
 
 abbrev pub weigh_in : List ℕ → Records → ℕ → (ℕ → ℕ) → ℕ
-weigh_in ls rs k on = weight ls (record-at rs k).entry + on (record-at rs k).next
+weigh_in ls rs k on = weight ls (record_at rs k).entry + on (record_at rs k).next
 
 -- the same, of all procedures in sight from a position
 abbrev pub weights : List ℕ → Records → ℕ → ℕ

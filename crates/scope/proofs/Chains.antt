@@ -9,17 +9,17 @@ use Rattle.scope.specs.declared.Record.{Record}
 use Rattle.scope.specs.Sight.{step, scan, in_sight, Down}
 use Rattle.scope.specs.Calls.{latest, entered}
 
-pub nth_set_same : {X : Type 0} (xs : List X) (i : ℕ) (x : X) → i < length xs → slice_get (set xs i x) i ≡ Some x
-nth_set_same [] i x h = absurd (omega arith)
-nth_set_same (y ∷ ys) zero x h = refl
-nth_set_same (y ∷ ys) (suc i) x h = nth_set_same ys i x (omega arith)
+pub get_set_same : {X : Type 0} (xs : List X) (i : ℕ) (x : X) → i < length xs → slice_get (set xs i x) i ≡ Some x
+get_set_same [] i x h = absurd (omega arith)
+get_set_same (y ∷ ys) zero x h = refl
+get_set_same (y ∷ ys) (suc i) x h = get_set_same ys i x (omega arith)
 
-pub nth_set_other : {X : Type 0} (xs : List X) (i j : ℕ) (x : X) → (j ≡ i → ⊥) → slice_get (set xs i x) j ≡ slice_get xs j
-nth_set_other [] i j x h = refl
-nth_set_other (y ∷ ys) zero zero x h = absurd (h refl)
-nth_set_other (y ∷ ys) zero (suc j) x h = refl
-nth_set_other (y ∷ ys) (suc i) zero x h = refl
-nth_set_other (y ∷ ys) (suc i) (suc j) x h = nth_set_other ys i j x (λ e. h (ap suc e))
+pub get_set_other : {X : Type 0} (xs : List X) (i j : ℕ) (x : X) → (j ≡ i → ⊥) → slice_get (set xs i x) j ≡ slice_get xs j
+get_set_other [] i j x h = refl
+get_set_other (y ∷ ys) zero zero x h = absurd (h refl)
+get_set_other (y ∷ ys) zero (suc j) x h = refl
+get_set_other (y ∷ ys) (suc i) zero x h = refl
+get_set_other (y ∷ ys) (suc i) (suc j) x h = get_set_other ys i j x (λ e. h (ap suc e))
 
 module _ {E : Type 0} where
   scan_take : (rs : List (Record E)) (k : ℕ) → scan rs (suc k) (suc k) ≡ step (slice_get rs k) (scan rs k)
@@ -60,20 +60,20 @@ module _ {E : Type 0} where
 
   -- a record at i or above is not in sight from i
   pub sight_older : (rs : List (Record E)) (i h : ℕ) (r : Record E) → h ≤ i → in_sight (set rs i r) h ≡ in_sight rs h
-  sight_older rs i h r le = sight_alike (set rs i r) rs h (λ j lt. nth_set_other rs i j r (λ e. omega arith))
+  sight_older rs i h r le = sight_alike (set rs i r) rs h (λ j lt. get_set_other rs i j r (λ e. omega arith))
 
   -- a record that is put at i is the first in sight from i + 1
   pub sight_enter : (rs : List (Record E)) (i : ℕ) (r : Record E) → i < length rs → r.next ≤ i
       → in_sight (set rs i r) (i + 1) ≡ (r.name, r.entry) ∷ in_sight rs r.next
   sight_enter rs i r lt le =
-      sight_step (set rs i r) i r (nth_set_same rs i r lt) le ∙ ap (λ l. (r.name, r.entry) ∷ l) (sight_older rs i r.next r le)
+      sight_step (set rs i r) i r (get_set_same rs i r lt) le ∙ ap (λ l. (r.name, r.entry) ∷ l) (sight_older rs i r.next r le)
 
   pub down_set : (rs : List (Record E)) (i : ℕ) (r : Record E) → i < length rs → r.next ≤ i → Down rs i → Down (set rs i r) (i + 1)
   down_set rs i r lt le d j q jlt e =
       ⊎_elim (λ (same : j ≡ i).
-      let s : Some q ≡ Some r = sym e ∙ ap (slice_get (set rs i r)) same ∙ nth_set_same rs i r lt in
+      let s : Some q ≡ Some r = sym e ∙ ap (slice_get (set rs i r)) same ∙ get_set_same rs i r lt in
       let qr : q ≡ r = cc in rw (qr, same) le)
-      (λ (ne : j ≡ i → ⊥). d j q (omega arith) (sym (nth_set_other rs i j r ne) ∙ e)) (cases_eq j i)
+      (λ (ne : j ≡ i → ⊥). d j q (omega arith) (sym (get_set_other rs i j r ne) ∙ e)) (cases_eq j i)
 
   pub down_less : (rs : List (Record E)) (i j : ℕ) → j ≤ i → Down rs i → Down rs j
   down_less rs i j le d k q lt e = d k q (omega arith) e
