@@ -1,6 +1,9 @@
 // Refusals: which question said no, in which layer, and where.
 ghost use Rattle.std.specs.Prelude.{◌≡◌, Some, None};
+ghost use Rattle.language.specs.declared.faults.Layer.TheVariants as layers;
 ghost use Rattle.language.specs.Faults.{number_of, place_of, fault};
+
+use std::fmt;
 
 // Why a table is not the form of a rule.
 #[derive(Clone, Copy, PartialEq, Eq)]
@@ -67,6 +70,38 @@ pub struct Fault {
     pub point: Option<u16>,
 }
 
+impl From<TableCause> for Layer {
+    ghost from_gives = { λ cause layer. layer ≡ layers.Table cause };
+
+    fn from(cause: TableCause) -> Layer {
+        Layer::Table(cause)
+    }
+}
+
+impl From<NamesCause> for Layer {
+    ghost from_gives = { λ cause layer. layer ≡ layers.Names cause };
+
+    fn from(cause: NamesCause) -> Layer {
+        Layer::Names(cause)
+    }
+}
+
+impl From<RunCause> for Layer {
+    ghost from_gives = { λ cause layer. layer ≡ layers.Run cause };
+
+    fn from(cause: RunCause) -> Layer {
+        Layer::Run(cause)
+    }
+}
+
+impl From<PieceCause> for Layer {
+    ghost from_gives = { λ cause layer. layer ≡ layers.Piece cause };
+
+    fn from(cause: PieceCause) -> Layer {
+        Layer::Piece(cause)
+    }
+}
+
 impl Layer {
     // The number of the question that said no.
     pub fn number(self) -> u8
@@ -85,11 +120,9 @@ impl Layer {
         ensures { result ≡ place_of self }
     {
         match self {
-            Layer::Table(TableCause::Length) | Layer::Table(TableCause::WorkLists) =>
-                PlaceKind::Nothing,
+            Layer::Table(TableCause::Length | TableCause::WorkLists) => PlaceKind::Nothing,
             Layer::Table(_) | Layer::Names(_) | Layer::Run(_) => PlaceKind::Node,
-            Layer::Piece(PieceCause::Point) | Layer::Piece(PieceCause::Ungraded) =>
-                PlaceKind::Point,
+            Layer::Piece(PieceCause::Point | PieceCause::Ungraded) => PlaceKind::Point,
             Layer::Piece(_) => PlaceKind::Nothing,
         }
     }
@@ -114,5 +147,12 @@ impl Fault {
             point: Some(point),
             ..self
         }
+    }
+}
+
+// The answer as it is printed: that it is none, the number of the question that said no, and the place.
+impl fmt::Display for Fault {
+    fn fmt<W: fmt::Write>(&self, f: &mut fmt::Formatter<W>) -> fmt::Result {
+        write!(f, "no {} {}", self.layer.number(), self.place)
     }
 }

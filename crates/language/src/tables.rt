@@ -1,7 +1,10 @@
 // The table form of a rule.
 ghost use Rattle.std.specs.Prelude.{◌≡◌};
-ghost use Rattle.language.specs.Kinds.{numbered, with_number};
+ghost use Rattle.language.specs.Kinds.{numbered, with_number, kind_of};
 ghost use Rattle.language.specs.Same.{same};
+ghost use Rattle.language.specs.Table.{type_of};
+
+use crate::values::{Number, Scalar};
 
 // A name in a table: 0 is `in`, 1 is `out`.
 pub type Name = u16;
@@ -18,10 +21,23 @@ pub fn same_name(a: Name, b: Name) -> bool
 pub struct Node {
     pub kind: u8,
     pub name: Name,
-    pub value: crate::values::Number,
+    pub value: Number,
     pub a: u16,
     pub b: u16,
     pub c: u16,
+}
+
+impl Node {
+    // The type that the node gives a variable, where it is a declaration.
+    pub fn declared_type(self) -> Scalar
+        ensures { result ≡ type_of self.value }
+    {
+        if self.value == 0 {
+            Scalar::Whole
+        } else {
+            Scalar::Truth
+        }
+    }
 }
 
 #[derive(Clone, Copy, PartialEq, Eq)]
@@ -43,34 +59,50 @@ pub enum Kind {
     Block,
 }
 
+// A number that no kind has.
+#[derive(Clone, Copy, PartialEq, Eq)]
+pub struct UnknownKind;
+
+impl TryFrom<u8> for Kind {
+    type Error = UnknownKind;
+
+    ghost try_from_gives = { λ number result. result ≡ kind_of number };
+
+    fn try_from(number: u8) -> Result<Kind, UnknownKind> {
+        match number {
+            0 => Ok(Kind::Truth),
+            1 => Ok(Kind::Whole),
+            2 => Ok(Kind::Read),
+            3 => Ok(Kind::Plus),
+            4 => Ok(Kind::Less),
+            5 => Ok(Kind::Or),
+            6 => Ok(Kind::Null),
+            7 => Ok(Kind::Assign),
+            8 => Ok(Kind::If),
+            9 => Ok(Kind::While),
+            10 => Ok(Kind::Call),
+            11 => Ok(Kind::Argument),
+            12 => Ok(Kind::Decl),
+            13 => Ok(Kind::Proc),
+            14 => Ok(Kind::Block),
+            _ => Err(UnknownKind),
+        }
+    }
+}
+
 impl Kind {
     // The kind with this number, if there is one.
     pub fn from_number(number: u8) -> Option<Kind>
         ensures { result ≡ with_number number }
     {
-        match number {
-            0 => Some(Kind::Truth),
-            1 => Some(Kind::Whole),
-            2 => Some(Kind::Read),
-            3 => Some(Kind::Plus),
-            4 => Some(Kind::Less),
-            5 => Some(Kind::Or),
-            6 => Some(Kind::Null),
-            7 => Some(Kind::Assign),
-            8 => Some(Kind::If),
-            9 => Some(Kind::While),
-            10 => Some(Kind::Call),
-            11 => Some(Kind::Argument),
-            12 => Some(Kind::Decl),
-            13 => Some(Kind::Proc),
-            14 => Some(Kind::Block),
-            _ => None,
-        }
+        Kind::try_from(number).ok()
     }
+}
 
-    pub fn number(self) -> u8
-        ensures { result ≡ numbered self }
-    {
-        self as u8
+impl From<Kind> for u8 {
+    ghost from_gives = { λ kind number. number ≡ numbered kind };
+
+    fn from(kind: Kind) -> u8 {
+        kind as u8
     }
 }

@@ -1,6 +1,6 @@
 // Numbers, truths, and what a run comes to.
 ghost use Rattle.std.specs.Prelude.{◌≡◌};
-ghost use Rattle.language.specs.Values.{sort, alike};
+ghost use Rattle.language.specs.Values.{sort, alike, initial_value};
 
 // The numbers of the engine: constants, steps and shifts.
 pub type Number = i32;
@@ -10,6 +10,18 @@ pub type Number = i32;
 pub enum Scalar {
     Whole,
     Truth,
+}
+
+impl Scalar {
+    // What a variable of this type holds when it is taken.
+    pub fn first_value(self) -> Value
+        ensures { result ≡ initial_value self }
+    {
+        match self {
+            Scalar::Whole => Value::Whole(0),
+            Scalar::Truth => Value::Truth(false),
+        }
+    }
 }
 
 // What a variable holds.
@@ -33,10 +45,7 @@ impl Value {
     pub fn is_like(self, other: Value) -> bool
         ensures { result ≡ alike (sort self) (sort other) }
     {
-        matches!(
-            (self, other),
-            (Value::Truth(_), Value::Truth(_)) | (Value::Whole(_), Value::Whole(_))
-        )
+        self.scalar() == other.scalar()
     }
 }
 
