@@ -105,7 +105,16 @@ impl<'a, E: Copy> Scope<'a, E> {
     pub fn find(&self, name: Name) -> Option<E>
         ensures { result ≡ look name (in_sight self.now.records.now self.now.head) }
     {
-        chase(self.records, self.top, self.head, name)
+        // a chain of records is walked, not a row: no `for` goes over it
+        let mut position = self.head;
+        while position > 0 {
+            let record = self.records[position - 1];
+            if same_name(name, record.name) {
+                return Some(record.entry);
+            }
+            position = record.next;
+        }
+        None
     }
 
     // What to go back to later.
@@ -128,12 +137,7 @@ impl<'a, E: Copy> Scope<'a, E> {
         ensures head_after { self.new.head ≡ after result mark.head self.old.head }
         ensures same_slice { self.new.records.ghost_name ≡ self.old.records.ghost_name }
     {
-        if mark.top > self.top {
-            return Err(NotThere);
-        }
-        self.top = mark.top;
-        self.head = mark.head;
-        Ok(())
+        self.restore(mark.top, mark.head)
     }
 
     // Lets go of every record from number `top` on, and sees from the position.
@@ -157,7 +161,11 @@ impl<'a, E: Copy> Scope<'a, E> {
     pub fn entry_at(&self, position: usize) -> Option<E>
         ensures latest { result ≡ entered self.now.records.now self.now.top position }
     {
-        entry_in(self.records, self.top, position)
+        let index = position.checked_sub(1)?;
+        if index >= self.top {
+            return None;
+        }
+        Some(self.records[index].entry)
     }
 
     // How many records are in use.
@@ -184,41 +192,7 @@ impl<'a, E: Copy> Scope<'a, E> {
         ensures head_after { self.new.head ≡ after result position self.old.head }
         ensures same_slice { self.new.records.ghost_name ≡ self.old.records.ghost_name }
     {
-        if position > self.top {
-            return Err(NotThere);
-        }
-        self.head = position;
-        Ok(())
+        let top = self.top;
+        self.restore(top, position)
     }
-}
-
-// The latest entry in sight from a position among the first `top` records.
-fn entry_in<E: Copy>(records: &[Record<E>], top: usize, position: usize) -> Option<E>
-    requires within { top ≤ length records.now }
-    requires down { Down records.now top }
-    ensures latest { result ≡ entered records.now top position }
-{
-    if position == 0 || position > top {
-        return None;
-    }
-    let r = records[position - 1];
-    Some(r.entry)
-}
-
-// The latest entry of the name on the chain from the position `from`.
-fn chase<E: Copy>(records: &[Record<E>], top: usize, from: usize, name: Name) -> Option<E>
-    requires within { top ≤ length records.now }
-    requires low { from ≤ top }
-    requires down { Down records.now top }
-    ensures { result ≡ look name (in_sight records.now from) }
-{
-    let mut h = from;
-    while h > 0 {
-        let r = records[h - 1];
-        if same_name(name, r.name) {
-            return Some(r.entry);
-        }
-        h = r.next;
-    }
-    None
 }
