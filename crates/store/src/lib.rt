@@ -4,10 +4,11 @@
 
 ghost use Rattle.std.specs.Prelude.{◌≡◌, ℕ, ◌<◌, ◌≤◌, true, is_some, Some, None};
 ghost use Rattle.language.specs.declared.values.Value.{Value};
+ghost use Rattle.language.specs.declared.values.Stop.TheVariants.{Stuck};
 ghost use Rattle.language.specs.Memory.{Memory, live};
 ghost use Rattle.store.specs.Calls.{Taken, read_answer, write_answer, release_answer, after_call};
 
-use language::Value;
+use language::{Stop, Value};
 
 // Every location that the limit allows is live.
 #[derive(Clone, Copy, PartialEq, Eq)]
@@ -23,6 +24,31 @@ pub enum WriteRefusal {
     Dead,
     // a truth in place of a whole number, or a whole number in place of a truth
     Kind,
+}
+
+// In a run a refusal of the store is a misuse.
+impl From<Full> for Stop {
+    ghost from_gives = { λ _ stop. stop ≡ Stuck };
+
+    fn from(_: Full) -> Stop {
+        Stop::Stuck
+    }
+}
+
+impl From<Dead> for Stop {
+    ghost from_gives = { λ _ stop. stop ≡ Stuck };
+
+    fn from(_: Dead) -> Stop {
+        Stop::Stuck
+    }
+}
+
+impl From<WriteRefusal> for Stop {
+    ghost from_gives = { λ _ stop. stop ≡ Stuck };
+
+    fn from(_: WriteRefusal) -> Stop {
+        Stop::Stuck
+    }
 }
 
 pub trait Store {
