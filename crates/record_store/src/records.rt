@@ -46,8 +46,13 @@ impl<'a> RecordStore<'a> {
     fn highest_free(&self) -> Option<u16>
         ensures { Found self.now.cells.now result }
     {
-        let top = self.top;
-        highest_free(self.cells, top)
+        // the proof with `rposition` did not close: std has no lemma on the items from the back
+        for i in (0..self.top).rev() {
+            if self.cells[i].value().is_none() {
+                return Some(i as u16);
+            }
+        }
+        None
     }
 
     // What the location holds, if it is live.
@@ -110,14 +115,12 @@ impl<'a> Store for RecordStore<'a> {
         ensures rest_kept { drop 65536 self.new.cells.now ≡ drop 65536 self.old.cells.now }
         ensures same_slice { self.new.cells.ghost_name ≡ self.old.cells.ghost_name }
     {
-        match self.found(location) {
-            None => Err(WriteRefusal::Dead),
-            Some(old) if !old.is_like(value) => Err(WriteRefusal::Kind),
-            Some(_) => {
-                self.cells[location as usize] = Cell::holding(value);
-                Ok(())
-            }
+        let old = self.found(location).ok_or(WriteRefusal::Dead)?;
+        if !old.is_like(value) {
+            return Err(WriteRefusal::Kind);
         }
+        self.cells[location as usize] = Cell::holding(value);
+        Ok(())
     }
 
     fn release(&mut self, location: u16) -> Result<(), Dead>
@@ -129,9 +132,7 @@ impl<'a> Store for RecordStore<'a> {
         ensures rest_kept { drop 65536 self.new.cells.now ≡ drop 65536 self.old.cells.now }
         ensures same_slice { self.new.cells.ghost_name ≡ self.old.cells.ghost_name }
     {
-        if self.found(location).is_none() {
-            return Err(Dead);
-        }
+        self.found(location).ok_or(Dead)?;
         let i = location as usize;
         self.cells[i] = Cell::free();
         self.count -= 1;
@@ -153,19 +154,6 @@ fn clear(cells: &mut [Cell])
 {
     let n = counted(cells);
     cells[..n].fill(Cell::free());
-}
-
-// The highest free cell, where every counted cell from `top` on is held.
-fn highest_free(cells: &[Cell], top: usize) -> Option<u16>
-    requires { (top ≤ span cells.now) × (HeldFrom cells.now top) }
-    ensures { Found cells.now result }
-{
-    for i in (0..top).rev() {
-        if cells[i].value().is_none() {
-            return Some(i as u16);
-        }
-    }
-    None
 }
 
 // A store that is made, used once and gone: the lender has its slice back as the call left it.
