@@ -6,8 +6,8 @@ ghost use Rattle.byte_store.specs.Layout.{cells, meaning, WellFormed, RestKept, 
 ghost use Rattle.byte_store.specs.Free.{FreeWithin, NextTaken, from_taken, Chosen, Room};
 ghost use Rattle.byte_store.specs.Laws.{live_low, live_le_cells};
 
+use crate::cells;
 use crate::window::Window;
-use crate::{cells, window};
 use language::Value;
 use store::{Dead, Full, Store, WriteRefusal};
 
@@ -54,11 +54,32 @@ impl<'a> ByteStore<'a> {
         cells::found(self.bytes, location)
     }
 
+    // The first free cell from `from` on, going round at the end, and the window once it is held.
+    #[tactic(auto, using(crate::proofs::Kept::live_gap, crate::proofs::Kept::live_full))]
     fn next_free(&self) -> (Option<u16>, Window)
         ensures chosen { Chosen (cells self.now.bytes.now) (meaning self.now.bytes.now) self.now.from result.1.low result.1.high result.0 }
         ensures room { Room (cells self.now.bytes.now) (meaning self.now.bytes.now) result.0 }
     {
-        window::next_free(self.bytes, self.from, self.window)
+        let Window { low, high } = self.window;
+        // the cells below `low` are held, and those from `high` on
+        let start = self.from.max(low);
+        if let Some(location) = cells::first_free(self.bytes, start, high) {
+            let low = if start == low {
+                location as usize + 1
+            } else {
+                low
+            };
+            return (Some(location), Window { low, high });
+        }
+        // so are those from `start` on
+        let high = high.min(start);
+        match cells::first_free(self.bytes, low, high) {
+            Some(location) => {
+                let low = location as usize + 1;
+                (Some(location), Window { low, high })
+            }
+            None => (None, Window { low: high, high }),
+        }
     }
 }
 
@@ -91,9 +112,7 @@ impl<'a> Store for ByteStore<'a> {
         let (free, narrowed) = self.next_free();
         match free {
             Some(location) => {
-                // only a store that is taken apart can lend its bytes, as it has ghost fields
-                let ByteStore { bytes, .. } = self;
-                cells::put_cell(bytes, location, Some(value));
+                cells::put_cell(self.bytes, location, Some(value));
                 self.count += 1;
                 self.from = location as usize + 1;
                 self.window = narrowed;
@@ -119,17 +138,12 @@ impl<'a> Store for ByteStore<'a> {
         ensures rest_kept { RestKept self.old.bytes.now self.new.bytes.now }
         ensures same_slice { self.new.bytes.ghost_name ≡ self.old.bytes.ghost_name }
     {
-        match self.found(location) {
-            Some(old) => {
-                if !old.is_like(value) {
-                    return Err(WriteRefusal::Kind);
-                }
-                let ByteStore { bytes, .. } = self;
-                cells::put_cell(bytes, location, Some(value));
-                Ok(())
-            }
-            None => Err(WriteRefusal::Dead),
+        let old = self.found(location).ok_or(WriteRefusal::Dead)?;
+        if !old.is_like(value) {
+            return Err(WriteRefusal::Kind);
         }
+        cells::put_cell(self.bytes, location, Some(value));
+        Ok(())
     }
 
     fn release(&mut self, location: u16) -> Result<(), Dead>
@@ -141,16 +155,11 @@ impl<'a> Store for ByteStore<'a> {
         ensures rest_kept { RestKept self.old.bytes.now self.new.bytes.now }
         ensures same_slice { self.new.bytes.ghost_name ≡ self.old.bytes.ghost_name }
     {
-        match self.found(location) {
-            Some(_) => {
-                let ByteStore { bytes, .. } = self;
-                cells::put_cell(bytes, location, None);
-                self.count -= 1;
-                self.window = self.window.with(location);
-                Ok(())
-            }
-            None => Err(Dead),
-        }
+        self.found(location).ok_or(Dead)?;
+        cells::put_cell(self.bytes, location, None);
+        self.count -= 1;
+        self.window = self.window.with(location);
+        Ok(())
     }
 }
 

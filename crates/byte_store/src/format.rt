@@ -31,7 +31,7 @@ pub(crate) fn encode(held: Option<Value>) -> [u8; CELL]
 {
     let (mark, number) = match held {
         None => (0, 0),
-        Some(Value::Truth(truth)) => (1, if truth { 1 } else { 0 }),
+        Some(Value::Truth(truth)) => (1, Number::from(truth)),
         Some(Value::Whole(number)) => (2, number),
     };
     let mut cell = [0; CELL];

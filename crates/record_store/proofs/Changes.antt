@@ -1,12 +1,10 @@
 -- A slice of which one counted cell was written. Assumes nothing.
-use Rattle.std.proofs.Common.{◌≡◌, ℕ, ◌+◌, ◌-◌, ◌<◌, ◌≤◌, min, max, true, false, cond, ltb, List, set, is_some, Some, None, Ok, Option, sym, refl, ap, ◌∙◌, subst, ⊎_elim, arith}
+use Rattle.std.proofs.Common.{◌≡◌, ℕ, ◌+◌, ◌-◌, ◌<◌, ◌≤◌, min, max, true, false, cond, ltb, List, set, is_some, Some, None, Option, sym, refl, ap, ◌∙◌, ⊎_elim, arith}
 use mathlib.Core.Path.{fun_ext}
 use Rattle.std.proofs.lemmas.List.{length-set, get_or-set_same, get_or-set_other}
-use Rattle.std.proofs.lemmas.Bool.{cases_eq, false≢true}
+use Rattle.std.proofs.lemmas.Bool.{cases_eq}
 use Rattle.language.specs.declared.values.Value.{Value}
 use Rattle.language.specs.declared.values.Value.TheVariants.{Truth as truth_value, Whole as whole_value}
-use Rattle.language.specs.Values.{sort, alike}
-use Rattle.store.specs.Calls.{release_answer, write_answer}
 use Rattle.language.specs.Memory.{put, live, one}
 use Rattle.language.specs.Counting.{one_some, live_put, below_all, below_gap, put_here, put_apart}
 use Rattle.record_store.specs.declared.cells.Cell.{Cell}
@@ -110,11 +108,3 @@ sound_released cells count top next l x e t s lt h =
 -- a store with a live location counts it
 pub counts_one : (cells : List Cell) (l : ℕ) → l < span cells → is_some (meant cells l) ≡ true → 1 ≤ live (meant cells)
 counts_one cells l lt h = omega (arith, live_set cells l None lt, one_some (meant cells l) h)
-
--- what a call answers that changes a live location, where o is what the code found there
-pub released : (o m : Option Value) → o ≡ m → is_some o ≡ true → Ok tt ≡ release_answer m
-released o None e h = absurd (false≢true (sym (ap is_some e) ∙ h))
-released o (Some v) e h = refl
-
-pub written : (old : Value) (m : Option Value) (v : Value) → Some old ≡ m → alike (sort old) (sort v) ≡ true → Ok tt ≡ write_answer m v
-written old m v e h = subst (λ o. Ok tt ≡ write_answer o v) e (rw h refl)
