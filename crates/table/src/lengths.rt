@@ -1,118 +1,106 @@
 // Reads a table from its first node on, and notes at each node the length of the stretch that it ends.
-ghost use Rattle.std.specs.Prelude.{◌≡◌, ℕ, ◌+◌, ◌<◌, ◌≤◌, length, drop, slice_index};
-ghost use Rattle.language.specs.Table.{refusal};
-ghost use Rattle.table.specs.Walk.{start_at, Short, Low, Brief, step_back, walk, start_of, stretch_of, whole_of};
+ghost use Rattle.std.specs.Prelude.{◌≡◌, ◌<◌, ◌≤◌, length, drop};
+ghost use Rattle.table.specs.Walk.{Short, Low, Brief, step_back, walk, start_of, stretch_of, whole_of};
 ghost use Rattle.table.specs.Measured.{measured, Noted};
 
 use crate::node::{Sort, formed};
-use language::{Fault, Kind, Layer, Node, TableCause};
+use language::{Fault, Kind, Node, TableCause};
 
-fn refused(cause: TableCause, place: usize) -> Fault
-    ensures { result ≡ refusal cause place }
-{
-    Fault::new(Layer::Table(cause), place)
+// A table that is read as far as the node `at`: at each node before it the length of the stretch that it ends is noted.
+#[derive(Clone, Copy)]
+pub struct Reading<'a> {
+    nodes: &'a [Node],
+    lens: &'a [usize],
+    at: usize,
+    ghost nodes_within: { at ≤ length nodes.now },
+    ghost lens_within: { at ≤ length lens.now },
+    ghost short: { Short lens.now at },
 }
 
-// Where the stretch begins that the node `last` ends.
-fn start(lens: &[usize], last: usize) -> usize
-    requires inside { last < length lens.now }
-    requires fits { slice_index lens.now last ≤ last + 1 }
-    ensures { result ≡ start_at lens.now last }
-{
-    last + 1 - lens[last]
-}
+impl<'a> Reading<'a> {
+    // Where the piece of this sort begins that ends right before `end`.
+    fn back_one(self, sort: Sort, end: usize) -> Option<usize>
+        requires before { end ≤ self.at }
+        ensures is { result ≡ step_back self.entry.nodes.now self.entry.lens.now sort end }
+        ensures low { Low result end }
+    {
+        let last = end.checked_sub(1)?;
+        let kind = Kind::try_from(self.nodes[last].kind).ok()?;
+        if Sort::of(kind) == sort {
+            Some(end - self.lens[last])
+        } else {
+            None
+        }
+    }
 
-// Where the piece of this sort begins that ends right before `end`.
-fn back_one(nodes: &[Node], lens: &[usize], sort: Sort, end: usize) -> Option<usize>
-    requires nodes { end ≤ length nodes.now }
-    requires lens { end ≤ length lens.now }
-    requires short { Short lens.now end }
-    ensures is { result ≡ step_back nodes.now lens.now sort end }
-    ensures low { Low result end }
-{
-    if end == 0 {
-        return None;
+    // Where the last `count` pieces of this sort begin that end right before `end`.
+    fn back(self, sort: Sort, count: u16, end: usize) -> Option<usize>
+        requires before { end ≤ self.at }
+        ensures is { result ≡ walk self.entry.nodes.now self.entry.lens.now sort count end }
+        ensures low { Low result end }
+    {
+        let mut from = end;
+        for _ in 0..count {
+            from = self.back_one(sort, from)?;
+        }
+        Some(from)
     }
-    let kind = Kind::from_number(nodes[end - 1].kind)?;
-    if Sort::of(kind) == sort {
-        Some(start(lens, end - 1))
-    } else {
-        None
-    }
-}
 
-// Where the last `count` pieces of this sort begin that end right before `end`.
-fn back(nodes: &[Node], lens: &[usize], sort: Sort, count: u16, end: usize) -> Option<usize>
-    requires nodes { end ≤ length nodes.now }
-    requires lens { end ≤ length lens.now }
-    requires short { Short lens.now end }
-    ensures is { result ≡ walk nodes.now lens.now sort count end }
-    ensures low { Low result end }
-{
-    let mut from = end;
-    for _ in 0..count {
-        from = back_one(nodes, lens, sort, from)?;
+    // Where the pieces begin that the next node takes.
+    fn start_of(self, kind: Kind, node: Node) -> Option<usize>
+        ensures is { result ≡ start_of kind node self.entry.nodes.now self.entry.lens.now self.entry.at }
+        ensures low { Low result self.entry.at }
+    {
+        let at = self.at;
+        match kind {
+            Kind::Truth | Kind::Whole | Kind::Read | Kind::Null | Kind::Argument | Kind::Decl => {
+                Some(at)
+            }
+            Kind::Plus | Kind::Less | Kind::Or => {
+                let right = self.back_one(Sort::Expression, at)?;
+                self.back_one(Sort::Expression, right)
+            }
+            Kind::Assign => self.back_one(Sort::Expression, at),
+            Kind::If => {
+                let other = self.back_one(Sort::Command, at)?;
+                let then = self.back_one(Sort::Command, other)?;
+                self.back_one(Sort::Expression, then)
+            }
+            Kind::While => {
+                let body = self.back_one(Sort::Command, at)?;
+                self.back_one(Sort::Expression, body)
+            }
+            Kind::Call => self.back(Sort::Argument, node.a, at),
+            Kind::Proc => {
+                let body = self.back_one(Sort::Command, at)?;
+                self.back(Sort::Declaration, node.a, body)
+            }
+            Kind::Block => {
+                let commands = self.back(Sort::Command, node.c, at)?;
+                let procedures = self.back(Sort::Procedure, node.b, commands)?;
+                self.back(Sort::Declaration, node.a, procedures)
+            }
+        }
     }
-    Some(from)
-}
 
-// Where the pieces begin that the node `at` takes.
-fn start_of(nodes: &[Node], lens: &[usize], kind: Kind, node: Node, at: usize) -> Option<usize>
-    requires nodes { at ≤ length nodes.now }
-    requires lens { at ≤ length lens.now }
-    requires short { Short lens.now at }
-    ensures is { result ≡ start_of kind node nodes.now lens.now at }
-    ensures low { Low result at }
-{
-    match kind {
-        Kind::Truth | Kind::Whole | Kind::Read | Kind::Null | Kind::Argument | Kind::Decl => {
-            Some(at)
+    // The length of the stretch that the next node ends.
+    fn stretch(self) -> Result<usize, Fault>
+        requires next { self.at < length self.nodes.now }
+        ensures is { result ≡ stretch_of self.entry.nodes.now self.entry.lens.now self.entry.at }
+        ensures brief { Brief result self.entry.at }
+    {
+        let at = self.at;
+        let node = self.nodes[at];
+        let Ok(kind) = Kind::try_from(node.kind) else {
+            return Err(Fault::new(TableCause::Kind.into(), at));
+        };
+        if !formed(kind, node) {
+            return Err(Fault::new(TableCause::Fields.into(), at));
         }
-        Kind::Plus | Kind::Less | Kind::Or => {
-            let right = back_one(nodes, lens, Sort::Expression, at)?;
-            back_one(nodes, lens, Sort::Expression, right)
+        match self.start_of(kind, node) {
+            Some(start) => Ok(at + 1 - start),
+            None => Err(Fault::new(TableCause::Pieces.into(), at)),
         }
-        Kind::Assign => back_one(nodes, lens, Sort::Expression, at),
-        Kind::If => {
-            let other = back_one(nodes, lens, Sort::Command, at)?;
-            let then = back_one(nodes, lens, Sort::Command, other)?;
-            back_one(nodes, lens, Sort::Expression, then)
-        }
-        Kind::While => {
-            let body = back_one(nodes, lens, Sort::Command, at)?;
-            back_one(nodes, lens, Sort::Expression, body)
-        }
-        Kind::Call => back(nodes, lens, Sort::Argument, node.a, at),
-        Kind::Proc => {
-            let body = back_one(nodes, lens, Sort::Command, at)?;
-            back(nodes, lens, Sort::Declaration, node.a, body)
-        }
-        Kind::Block => {
-            let commands = back(nodes, lens, Sort::Command, node.c, at)?;
-            let procedures = back(nodes, lens, Sort::Procedure, node.b, commands)?;
-            back(nodes, lens, Sort::Declaration, node.a, procedures)
-        }
-    }
-}
-
-// The length of the stretch that the node `at` ends.
-fn stretch(nodes: &[Node], lens: &[usize], at: usize) -> Result<usize, Fault>
-    requires nodes { at < length nodes.now }
-    requires lens { at ≤ length lens.now }
-    requires short { Short lens.now at }
-    ensures is { result ≡ stretch_of nodes.now lens.now at }
-    ensures brief { Brief result at }
-{
-    let node = nodes[at];
-    let Some(kind) = Kind::from_number(node.kind) else {
-        return Err(refused(TableCause::Kind, at));
-    };
-    if !formed(kind, node) {
-        return Err(refused(TableCause::Fields, at));
-    }
-    match start_of(nodes, lens, kind, node, at) {
-        Some(start) => Ok(at + 1 - start),
-        None => Err(refused(TableCause::Pieces, at)),
     }
 }
 
@@ -123,9 +111,10 @@ fn whole(nodes: &[Node], lens: &[usize]) -> Result<(), Fault>
     requires short { Short lens.now (length nodes.now) }
     ensures { result ≡ whole_of nodes.now lens.now }
 {
-    match back_one(nodes, lens, Sort::Command, nodes.len()) {
+    let at = nodes.len();
+    match (Reading { nodes, lens, at }).back_one(Sort::Command, at) {
         Some(0) => Ok(()),
-        _ => Err(refused(TableCause::Whole, nodes.len() - 1)),
+        _ => Err(Fault::new(TableCause::Whole.into(), at - 1)),
     }
 }
 
@@ -138,13 +127,14 @@ pub fn measure(nodes: &[Node], lens: &mut [usize]) -> Result<(), Fault>
     ensures short_list_kept { length lens.old < length nodes.now → lens.new ≡ lens.old }
 {
     if nodes.is_empty() {
-        return Err(refused(TableCause::Length, 0));
+        return Err(Fault::new(TableCause::Length.into(), 0));
     }
     if lens.len() < nodes.len() {
-        return Err(refused(TableCause::WorkLists, 0));
+        return Err(Fault::new(TableCause::WorkLists.into(), 0));
     }
     for at in 0..nodes.len() {
-        let len = stretch(nodes, lens, at)?;
+        let reading = Reading { nodes, lens, at };
+        let len = reading.stretch()?;
         lens[at] = len;
     }
     whole(nodes, lens)

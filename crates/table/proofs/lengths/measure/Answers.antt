@@ -5,7 +5,7 @@ use Rattle.table.proofs.lengths.measure.Goals as goal
 
 pub stretch-requires : goal.stretch-requires
 stretch-requires c =
-    record { nodes = search rules; lens = search rules; short = c.loop-at.invariant.3 }
+    record { next = search rules }
 
 pub loop-at-init : goal.loop-at-init
 loop-at-init c = ([], refl, refl, λ k h. absurd (omega arith), refl)

@@ -1,8 +1,0 @@
-use Rattle.std.proofs.Common.{◌≡◌, ◌-◌, ◌≤◌}
-use Rattle.table.specs.Walk.{walk}
-use Rattle.table.proofs.lengths.back.Given as goal
-
-abbrev pub invariant-loop : goal.invariant-loop
-invariant-loop l =
-    (walk l.nodes l.lens l.sort (l.count - l.counter) l.from ≡ walk l.nodes l.lens l.sort l.count l.end)
-    × (l.from ≤ l.end)
