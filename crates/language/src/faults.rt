@@ -3,10 +3,11 @@ ghost use Rattle.std.specs.Prelude.{◌≡◌, Some, None};
 ghost use Rattle.language.specs.declared.faults.Layer.TheVariants as layers;
 ghost use Rattle.language.specs.Faults.{number_of, place_of, fault};
 
+use std::error::Error;
 use std::fmt;
 
 // Why a table is not the form of a rule.
-#[derive(Clone, Copy, PartialEq, Eq)]
+#[derive(Clone, Copy, Debug, PartialEq, Eq)]
 pub enum TableCause {
     Length,
     WorkLists,
@@ -17,7 +18,7 @@ pub enum TableCause {
 }
 
 // Why a rule's names and types do not fit.
-#[derive(Clone, Copy, PartialEq, Eq)]
+#[derive(Clone, Copy, Debug, PartialEq, Eq)]
 pub enum NamesCause {
     Repeated,
     Variable,
@@ -27,14 +28,14 @@ pub enum NamesCause {
 }
 
 // Why a run was stopped.
-#[derive(Clone, Copy, PartialEq, Eq)]
+#[derive(Clone, Copy, Debug, PartialEq, Eq)]
 pub enum RunCause {
     Sum,
     Unit,
 }
 
 // Why a piece declines a call.
-#[derive(Clone, Copy, PartialEq, Eq)]
+#[derive(Clone, Copy, Debug, PartialEq, Eq)]
 pub enum PieceCause {
     NotBare,
     Points,
@@ -46,7 +47,7 @@ pub enum PieceCause {
     Ungraded,
 }
 
-#[derive(Clone, Copy, PartialEq, Eq)]
+#[derive(Clone, Copy, Debug, PartialEq, Eq)]
 pub enum Layer {
     Table(TableCause),
     Names(NamesCause),
@@ -55,7 +56,7 @@ pub enum Layer {
 }
 
 // What the place of a refusal counts.
-#[derive(Clone, Copy, PartialEq, Eq)]
+#[derive(Clone, Copy, Debug, PartialEq, Eq)]
 pub enum PlaceKind {
     Node,
     Point,
@@ -63,7 +64,7 @@ pub enum PlaceKind {
 }
 
 // A refusal: the layer with its cause, the place, and the point that a grade adds to what comes from below it.
-#[derive(Clone, Copy, PartialEq, Eq)]
+#[derive(Clone, Copy, Debug, PartialEq, Eq)]
 pub struct Fault {
     pub layer: Layer,
     pub place: usize,
@@ -156,3 +157,5 @@ impl fmt::Display for Fault {
         write!(f, "no {} {}", self.layer.number(), self.place)
     }
 }
+
+impl Error for Fault {}

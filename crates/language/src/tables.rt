@@ -60,7 +60,7 @@ pub enum Kind {
 }
 
 // A number that no kind has.
-#[derive(Clone, Copy, PartialEq, Eq)]
+#[derive(Clone, Copy, Debug, PartialEq, Eq)]
 pub struct UnknownKind;
 
 impl TryFrom<u8> for Kind {

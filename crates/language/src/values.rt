@@ -2,6 +2,8 @@
 ghost use Rattle.std.specs.Prelude.{◌≡◌};
 ghost use Rattle.language.specs.Values.{sort, alike, initial_value};
 
+use std::fmt;
+
 // The numbers of the engine: constants, steps and shifts.
 pub type Number = i32;
 
@@ -49,6 +51,15 @@ impl Value {
     }
 }
 
+impl fmt::Display for Value {
+    fn fmt<W: fmt::Write>(&self, f: &mut fmt::Formatter<W>) -> fmt::Result {
+        match self {
+            Value::Truth(truth) => write!(f, "{truth}"),
+            Value::Whole(number) => write!(f, "{number}"),
+        }
+    }
+}
+
 // What ends a run before its command is done.
 #[derive(Clone, Copy, PartialEq, Eq)]
 pub enum Stop {
@@ -65,4 +76,11 @@ pub enum Stop {
 pub struct Graded {
     pub shift: Number,
     pub units: u32,
+}
+
+// The answer as it is printed: that it is one, the shift and the units.
+impl fmt::Display for Graded {
+    fn fmt<W: fmt::Write>(&self, f: &mut fmt::Formatter<W>) -> fmt::Result {
+        write!(f, "ok {} {}", self.shift, self.units)
+    }
 }

@@ -13,11 +13,11 @@ mod tests;
 use language::{Name, same_name};
 
 // Every record is in use.
-#[derive(Clone, Copy, PartialEq, Eq)]
+#[derive(Clone, Copy, Debug, PartialEq, Eq)]
 pub struct NoRoom;
 
 // No such position: fewer records are in use.
-#[derive(Clone, Copy, PartialEq, Eq)]
+#[derive(Clone, Copy, Debug, PartialEq, Eq)]
 pub struct NotThere;
 
 // A name with its entry, and the position that it was entered at.

@@ -9,22 +9,51 @@ ghost use Rattle.language.specs.Memory.{Memory, live};
 ghost use Rattle.store.specs.Calls.{Taken, read_answer, write_answer, release_answer, after_call};
 
 use language::{Stop, Value};
+use std::error::Error;
+use std::fmt;
 
 // Every location that the limit allows is live.
-#[derive(Clone, Copy, PartialEq, Eq)]
+#[derive(Clone, Copy, Debug, PartialEq, Eq)]
 pub struct Full;
 
 // The location is not live.
-#[derive(Clone, Copy, PartialEq, Eq)]
+#[derive(Clone, Copy, Debug, PartialEq, Eq)]
 pub struct Dead;
 
-#[derive(Clone, Copy, PartialEq, Eq)]
+#[derive(Clone, Copy, Debug, PartialEq, Eq)]
 pub enum WriteRefusal {
     // the location is not live
     Dead,
     // a truth in place of a whole number, or a whole number in place of a truth
     Kind,
 }
+
+impl fmt::Display for Full {
+    fn fmt<W: fmt::Write>(&self, f: &mut fmt::Formatter<W>) -> fmt::Result {
+        f.write_str("the store is full")
+    }
+}
+
+impl Error for Full {}
+
+impl fmt::Display for Dead {
+    fn fmt<W: fmt::Write>(&self, f: &mut fmt::Formatter<W>) -> fmt::Result {
+        f.write_str("dead")
+    }
+}
+
+impl Error for Dead {}
+
+impl fmt::Display for WriteRefusal {
+    fn fmt<W: fmt::Write>(&self, f: &mut fmt::Formatter<W>) -> fmt::Result {
+        f.write_str(match self {
+            WriteRefusal::Dead => "dead",
+            WriteRefusal::Kind => "kind",
+        })
+    }
+}
+
+impl Error for WriteRefusal {}
 
 // In a run a refusal of the store is a misuse.
 impl From<Full> for Stop {
