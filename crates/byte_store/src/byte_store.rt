@@ -110,6 +110,7 @@ impl<'a> Store for ByteStore<'a> {
         ensures same_slice { self.new.bytes.ghost_name ≡ self.old.bytes.ghost_name }
     {
         let (free, narrowed) = self.next_free();
+        // with `ok_or` and `?` the window would have to be narrowed first, where it is not true yet of the bytes
         match free {
             Some(location) => {
                 cells::put_cell(self.bytes, location, Some(value));

@@ -22,11 +22,8 @@ pub(crate) fn found(bytes: &[u8], location: u16) -> Option<Value>
     ensures within { is_some result ≡ true → location < cells bytes.now }
     ensures value { result ≡ meaning bytes.now location }
 {
-    let l = location as usize;
-    if l >= counted(bytes) {
-        return None;
-    }
-    decode(&bytes[CELL * l..CELL * l + CELL])
+    let start = CELL * location as usize;
+    decode(bytes.get(start..start + CELL)?)
 }
 
 // Writes the bytes of a counted cell.
@@ -53,7 +50,8 @@ pub(crate) fn clear(bytes: &mut [u8])
     bytes[..end].fill(0);
 }
 
-// The first free cell from `low` on, below `high`.
+// The first free cell from `low` on, below `high`. Over `find` it was tried, and the proof of which cells were passed did
+// not close.
 pub(crate) fn first_free(bytes: &[u8], low: usize, high: usize) -> Option<u16>
     requires { high ≤ cells bytes.now }
     ensures { FirstFree (meaning bytes.now) low high result }

@@ -16,7 +16,7 @@ fn number_bytes(number: Number) -> [u8; NUMBER]
     number.to_le_bytes()
 }
 
-// The number that `number_bytes` wrote.
+// The number that `number_bytes` wrote. Its bytes lie in a longer row, so no array comes in, as a `From` would take.
 fn number_in(bytes: &[u8]) -> Number
     requires { length bytes.now ≡ number_size }
     ensures { result ≡ number_in bytes.now }
@@ -24,7 +24,7 @@ fn number_in(bytes: &[u8]) -> Number
     Number::from_le_bytes([bytes[0], bytes[1], bytes[2], bytes[3]])
 }
 
-// The bytes that stand for a value, or for none.
+// The bytes that stand for a value, or for none. Not a `From`, which has one fact and no name for it.
 pub(crate) fn encode(held: Option<Value>) -> [u8; CELL]
     ensures bytes { result ≡ cell_bytes held }
     ensures back { value_in result ≡ held }
@@ -40,7 +40,7 @@ pub(crate) fn encode(held: Option<Value>) -> [u8; CELL]
     cell
 }
 
-// What a cell's bytes stand for.
+// What a cell's bytes stand for. They lie in a longer row, so no array comes in, as a `From` would take.
 pub(crate) fn decode(cell: &[u8]) -> Option<Value>
     requires { length cell.now ≡ cell_size }
     ensures { result ≡ value_in cell.now }

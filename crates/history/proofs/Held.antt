@@ -1,5 +1,5 @@
 -- What a store of points holds. Assumes nothing.
-use Rattle.std.proofs.Common.{◌≡◌, ℕ, zero, suc, ◌<◌, ◌≤◌, Bool, true, false, cond, eqb, ltb, ◌⊎◌, List, [], ◌∷◌, ◌++◌, length, get_or, set, ℤ, pos, is_some, Some, None, Option, sym, refl, ap, ◌∙◌, inl, inr, arith}
+use Rattle.std.proofs.Common.{◌≡◌, ℕ, zero, suc, ◌<◌, ◌≤◌, Bool, true, false, cond, eqb, ltb, ◌⊎◌, List, [], ◌∷◌, ◌++◌, length, get_or, set, ℤ, pos, Some, None, Option, sym, refl, ap, ◌∙◌, inl, inr, arith}
 use mathlib.Core.Path.{fun_ext}
 use Rattle.std.proofs.lemmas.Bool.{eq-eqb, ne_eqb, eqb-true, eqb-false, ltb-true, ltb-false, cases_eq, cases_Bool}
 use Rattle.language.specs.declared.values.Value.{Value}
@@ -7,9 +7,7 @@ use Rattle.language.specs.declared.values.Value.TheVariants.{Whole as whole_valu
 use Rattle.language.specs.Memory.{Memory, put, one, live_below, live}
 use Rattle.language.specs.Counting.{live_put, live_none}
 use Rattle.history.specs.States.{holding, Apart, Free}
-
-never : {A : Type 0} → ◌≡◌ {A = ℕ} 0 1 → A
-never h = absurd (omega arith)
+use Rattle.history.proofs.Plain.{never}
 
 apart_at : (l : ℕ) (ls : List ℕ) (k : ℕ) → Apart l ls → k < length ls → get_or ls k 0 ≡ l → ⊥
 apart_at l [] k a h e = omega arith
@@ -61,13 +59,6 @@ vacant σ e low l = go (ltb l 65536) refl
     go : (b : Bool) → ltb l 65536 ≡ b → σ l ≡ None
     go true q = vacant_below σ 65536 l e (ltb-true l 65536 q)
     go false q = low l (ltb-false l 65536 q)
-
-dead : (o : Option Value) → (is_some o ≡ true → ⊥) → o ≡ None
-dead None h = refl
-dead (Some v) h = absurd (h refl)
-
-pub high_dead : (σ : Memory) → ((l : ℕ) → is_some (σ l) ≡ true → l < 65536) → (l : ℕ) → 65536 ≤ l → σ l ≡ None
-high_dead σ low l h = dead (σ l) (λ e. let q = low l e in omega arith)
 
 -- as many as there are points
 pub held_count : (ls : List ℕ) (zs : List ℤ) → Free ls → length zs ≡ length ls → live (holding ls zs) ≡ length ls

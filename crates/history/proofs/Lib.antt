@@ -1,3 +1,4 @@
+pub mod Plain
 pub mod Held
 mod Rules
 mod Moves

@@ -8,11 +8,11 @@ use Rattle.language.specs.declared.faults.PieceCause.TheVariants as causes
 use Rattle.language.specs.Memory.{live}
 use Rattle.language.specs.Reference.{answer}
 use Rattle.language.specs.Outcome.{told}
-use Rattle.history.specs.declared.answers.Answer.{Answer}
 use Rattle.history.specs.declared.answers.Answer.TheVariants.{Laid}
-use Rattle.history.specs.States.{Accepted, Call, lay, open_to, grade, keep, undo, show, Mode, bare, laid, opened, State, shifts_of, holding, Apart, Free, with_mode, lowest_false, Outcome, answers_with, refused, lists_fit, does_lay, does_open, does_run, does_grade, does_end, does_keep, does_undo, does, asked_points}
+use Rattle.history.specs.States.{Accepted, Call, lay, open_to, grade, keep, undo, show, Mode, bare, laid, opened, State, shifts_of, holding, Apart, Free, with_mode, lowest_false, Reply, Outcome, answers_with, refused, lists_fit, does_lay, does_open, does_run, does_grade, does_end, does_keep, does_undo, does, asked_points}
 use Rattle.history.specs.Promise.{Answered, AnsweredOnce}
 use Rattle.history.proofs.Rules.{not_stuck}
+use Rattle.history.proofs.Plain.{never}
 
 abbrev down : ℕ → List ℕ
 down zero = []
@@ -30,12 +30,9 @@ free_down : (n : ℕ) → n ≤ 65536 → Free (down n)
 free_down zero h = tt
 free_down (suc n) h = (h, apart_down n n (omega arith), free_down n (omega arith))
 
-never : {A : Type 0} → ◌≡◌ {A = ℕ} 0 1 → A
-never h = absurd (omega arith)
-
 -- there is an answer
 abbrev SomeAnswer : Outcome → Type 0
-SomeAnswer o = (a : Answer) × (o.0 ≡ Some a)
+SomeAnswer o = (a : Reply) × (o.0 ≡ Some a)
 
 either_answer : (b : Bool) (x y : Outcome) → SomeAnswer x → SomeAnswer y → SomeAnswer (cond b x y)
 either_answer true x y p q = p
@@ -89,17 +86,17 @@ some_answer s (keep m) ls = keep_answer s m s.mode
 some_answer s (undo m) ls = undo_answer s m s.mode
 some_answer s (show k) ls = either_answer (ltb k (length (shifts_of s.mode))) _ _ (_, refl) (_, refl)
 
-lay_small : (s : State) (n : ℕ) (ls : List ℕ) (m : Mode) → (does_lay ls s n m).0 ≡ Some Laid → n ≤ 256
+lay_small : (s : State) (n : ℕ) (ls : List ℕ) (m : Mode) → (does_lay ls s n m).0 ≡ Some (Ok Laid) → n ≤ 256
 lay_small s n ls (bare σ) e = go (leb 1 n && leb n 256) refl (eqb (live σ) 0 && leb n s.limit) e
   where
     go : (b : Bool) → (leb 1 n && leb n 256) ≡ b → (c : Bool)
-        → (cond b (cond c (answers_with Laid (with_mode s (laid ls (replicate n (pos 0))))) (refused causes.Store 0 s)) (refused causes.Points 0 s)).0 ≡ Some Laid → n ≤ 256
+        → (cond b (cond c (answers_with Laid (with_mode s (laid ls (replicate n (pos 0))))) (refused causes.Store 0 s)) (refused causes.Points 0 s)).0 ≡ Some (Ok Laid) → n ≤ 256
     go true q c e = leb-true n 256 (and_parts _ _ q).1
     go false q c e = never (cc)
 lay_small s n ls (laid ks zs) e = never (cc)
 lay_small s n ls (opened t ks zs bs gs) e = never (cc)
 
-small_call : (s : State) (c : Call) (ls : List ℕ) → (does ls s c).0 ≡ Some Laid → asked_points c ≤ 256
+small_call : (s : State) (c : Call) (ls : List ℕ) → (does ls s c).0 ≡ Some (Ok Laid) → asked_points c ≤ 256
 small_call s (lay n) ls e = lay_small s n ls s.mode e
 small_call s (open_to t) ls e = omega arith
 small_call s (grade m k r a w) ls e = omega arith
@@ -123,7 +120,7 @@ answered s c =
 
 -- the same answer, and the same state unless points were laid
 abbrev Same : Outcome → Outcome → Type 0
-Same x y = (x.0 ≡ y.0) × ((x.0 ≡ Some Laid → ⊥) → x.1 ≡ y.1)
+Same x y = (x.0 ≡ y.0) × ((x.0 ≡ Some (Ok Laid) → ⊥) → x.1 ≡ y.1)
 
 lay_same : (s : State) (n : ℕ) (ls ks : List ℕ) (m : Mode) → Same (does_lay ls s n m) (does_lay ks s n m)
 lay_same s n ls ks (bare σ) = go (leb 1 n && leb n 256) (eqb (live σ) 0 && leb n s.limit)
@@ -149,4 +146,4 @@ answered_once s s' s'' c a b d e =
     let (p, q) = same s c d.handed e.handed in
     let is : Some a ≡ Some b = sym d.answers ∙ p ∙ e.answers in
     let r : a ≡ b = cc in
-    (r, λ f. d.leaves ∙ q (λ z. let v : Some Laid ≡ Some a = sym z ∙ d.answers in let w : Laid ≡ a = cc in f (sym w)) ∙ sym e.leaves)
+    (r, λ f. d.leaves ∙ q (λ z. let v : Some (Ok Laid) ≡ Some a = sym z ∙ d.answers in let w : Ok Laid ≡ a = cc in f (sym w)) ∙ sym e.leaves)

@@ -21,20 +21,14 @@ use Rattle.language.specs.Runs.{Out, ended, stopped}
 use Rattle.language.specs.Laws.{AsAnswered}
 use Rattle.language.proofs.Commands.{gives_exactly, steady as steadily}
 use Rattle.language.proofs.Sound.{sound_runs, runs_exist}
-use Rattle.history.specs.declared.answers.Answer.{Answer}
-use Rattle.history.specs.declared.answers.Answer.TheVariants.{Laid, Ticket, Graded, Kept, Undone, Shown, Refused}
-use Rattle.history.specs.States.{Accepted, Call, lay, open_to, grade, keep, undo, show, Mode, bare, laid, opened, State, shifts_of, locations_of, holding, store_of, Apart, Free, with_mode, lowest_false, after_true, refused, at_point, shown, does_run, does_grade, does_end, does_keep, does_undo, does_show, Does}
+use Rattle.history.specs.declared.answers.Answer.TheVariants.{Laid, Ticket, Graded, Kept, Undone, Shown}
+use Rattle.history.specs.States.{Accepted, Call, lay, open_to, grade, keep, undo, show, Mode, bare, laid, opened, State, shifts_of, locations_of, holding, store_of, Apart, Free, with_mode, lowest_false, after_true, refused, at_point, shown, Reply, does_run, does_grade, does_end, does_keep, does_undo, does_show, Does}
 use Rattle.history.proofs.Held.{held_at, absent, vacant, held_count}
 use Rattle.history.specs.Histories.{History, Goes, Start, Reached, resizing, points, open_step, kept_step, Rules, open_rules, kept_rules, none_opened_at, none_opened, RunAnswer, said, run_of}
 use Rattle.history.specs.Promise.{store, NeverStuckHere, Tells, Faithful, Ready, Reaches, Live, Came, Alike, Steady, Due, DueOpen, Seen, Stands, StandsOpen, AllGraded, Keeps, Undoes, UndoneWholly, RefusedWholly, Always}
 use Rattle.history.proofs.Rules.{passed, not_stuck}
 use Rattle.history.proofs.Moves.{ReadyAt, Moves, refuses, stops, shows, lays, opens, grades, keeps, undoes, does_moves}
-
-never : {A : Type 0} → ◌≡◌ {A = ℕ} 0 1 → A
-never h = absurd (omega arith)
-
-is : {A : Type 0} {x a : A} → Some x ≡ Some a → a ≡ x
-is {A} {x} {a} e = let q : x ≡ a = cc in sym q
+use Rattle.history.proofs.Plain.{never, some_same}
 
 -- what is told of a run
 told_ok : (y : Result Grading Stop) (g : Grading) → told y ≡ Some (Ok g) → y ≡ Ok g
@@ -43,10 +37,10 @@ told_ok (Err (Sum i)) g e = never (cc)
 told_ok (Err (UnitStop i)) g e = never (cc)
 told_ok (Err Stuck) g e = never (cc)
 
-told_stop : (y : Result Grading Stop) (k : ℕ) (f : Fault) → told y ≡ Some (Err f) → run_of (Refused (at_point k f)) ≡ Some (Err f)
+told_stop : (y : Result Grading Stop) (k : ℕ) (f : Fault) → told y ≡ Some (Err f) → run_of (Err (at_point k f)) ≡ Some (Err f)
 told_stop (Ok x) k f e = never (cc)
-told_stop (Err (Sum i)) k f e = let q : fault (layers.Run run_causes.Sum) i ≡ f = cc in subst (λ (x : Fault). run_of (Refused (at_point k x)) ≡ Some (Err x)) q refl
-told_stop (Err (UnitStop i)) k f e = let q : fault (layers.Run run_causes.Unit) i ≡ f = cc in subst (λ (x : Fault). run_of (Refused (at_point k x)) ≡ Some (Err x)) q refl
+told_stop (Err (Sum i)) k f e = let q : fault (layers.Run run_causes.Sum) i ≡ f = cc in subst (λ (x : Fault). run_of (Err (at_point k x)) ≡ Some (Err x)) q refl
+told_stop (Err (UnitStop i)) k f e = let q : fault (layers.Run run_causes.Unit) i ≡ f = cc in subst (λ (x : Fault). run_of (Err (at_point k x)) ≡ Some (Err x)) q refl
 told_stop (Err Stuck) k f e = never (cc)
 
 abbrev is_some : Option Accepted → Bool
@@ -115,21 +109,21 @@ module _ (p : Start) (h : History) (s : State) (H : Holds p h s) where
   fit : (m : Mode) → s.mode ≡ m → Fit m
   fit m e = subst Fit e H.fitting
 
-  put_in : {c : Call} {a : Answer} {s' : State} (c₀ : Call) (a₀ : Answer) (s₀ : State) → c ≡ c₀ → a ≡ a₀ → s' ≡ s₀ → Holds p ((c₀, a₀) ∷ h) s₀ → Holds p ((c, a) ∷ h) s'
+  put_in : {c : Call} {a : Reply} {s' : State} (c₀ : Call) (a₀ : Reply) (s₀ : State) → c ≡ c₀ → a ≡ a₀ → s' ≡ s₀ → Holds p ((c₀, a₀) ∷ h) s₀ → Holds p ((c, a) ∷ h) s'
   put_in {c} {a} {s'} c₀ a₀ s₀ ec ea es x =
       subst⁻¹ (λ (d : Call). Holds p ((d, a) ∷ h) s') ec
-      (subst⁻¹ (λ (b : Answer). Holds p ((c₀, b) ∷ h) s') ea (subst⁻¹ (λ (t : State). Holds p ((c₀, a₀) ∷ h) t) es x))
+      (subst⁻¹ (λ (b : Reply). Holds p ((c₀, b) ∷ h) s') ea (subst⁻¹ (λ (t : State). Holds p ((c₀, a₀) ∷ h) t) es x))
 
-  stays : (c : Call) (a : Answer) (s' : State) → Moves s c a s' → Holds p ((c, a) ∷ h) s'
+  stays : (c : Call) (a : Reply) (s' : State) → Moves s c a s' → Holds p ((c, a) ∷ h) s'
   stays c a s' (refuses f ea eo es) =
-      put_in c (Refused f) s refl ea es (record { number = H.number; limit = H.limit; step = H.step; vacated = H.vacated; fitting = H.fitting })
+      put_in c (Err f) s refl ea es (record { number = H.number; limit = H.limit; step = H.step; vacated = H.vacated; fitting = H.fitting })
   stays c a s' (stops m k r b w t ls zs bs gs f ec rd q ea es) =
-      put_in c (Refused (at_point k f)) s refl ea es (record { number = H.number; limit = H.limit; step = H.step; vacated = H.vacated; fitting = H.fitting })
+      put_in c (Err (at_point k f)) s refl ea es (record { number = H.number; limit = H.limit; step = H.step; vacated = H.vacated; fitting = H.fitting })
   stays c a s' (shows k ec lt ea es) =
       put_in c _ s refl ea es (record { number = H.number; limit = H.limit; step = H.step; vacated = H.vacated; fitting = H.fitting })
   stays c a s' (lays n ls σ ec em nil hand ea es) =
       let f = fit (bare σ) em in
-      put_in (lay n) Laid _ ec ea es (record {
+      put_in (lay n) (Ok Laid) _ ec ea es (record {
         number = H.number;
         limit = H.limit;
         step = H.step;
@@ -144,7 +138,7 @@ module _ (p : Start) (h : History) (s : State) (H : Holds p h s) where
       })
   stays c a s' (opens t ls zs ec em ea es) =
       let f = fit (laid ls zs) em in
-      put_in (open_to t) (Ticket s.number) _ ec ea es (record {
+      put_in (open_to t) (Ok (Ticket s.number)) _ ec ea es (record {
         number = H.number;
         limit = H.limit;
         step = H.step;
@@ -164,7 +158,7 @@ module _ (p : Start) (h : History) (s : State) (H : Holds p h s) where
   stays c a s' (grades m k r b w t ls zs bs gs y ec rd q ea es) =
       let f = fit (opened t ls zs bs gs) rd.was in
       let (tl, mean, _, _, _) = (gives_exactly r.tree t b y.shift y.units).0 (told_ok (answer r.tree t b) y q) in
-      put_in (grade m k r b w) (Graded y) _ ec ea es (record {
+      put_in (grade m k r b w) (Ok (Graded y)) _ ec ea es (record {
         number = H.number;
         limit = H.limit;
         step = H.step;
@@ -183,7 +177,7 @@ module _ (p : Start) (h : History) (s : State) (H : Holds p h s) where
       })
   stays c a s' (keeps m t ls zs bs gs ec em all ea es) =
       let f = fit (opened t ls zs bs gs) em in
-      put_in (keep m) (Kept t) _ ec ea es (record {
+      put_in (keep m) (Ok (Kept t)) _ ec ea es (record {
         number = H.number;
         limit = H.limit;
         step = f.7;
@@ -192,7 +186,7 @@ module _ (p : Start) (h : History) (s : State) (H : Holds p h s) where
       })
   stays c a s' (undoes m t ls zs bs gs ec em ea es) =
       let f = fit (opened t ls zs bs gs) em in
-      put_in (undo m) (Undone s.step) _ ec ea es (record { number = H.number; limit = H.limit; step = H.step; vacated = H.vacated; fitting = (refl, f.1, f.2, f.5, f.4) })
+      put_in (undo m) (Ok (Undone s.step)) _ ec ea es (record { number = H.number; limit = H.limit; step = H.step; vacated = H.vacated; fitting = (refl, f.1, f.2, f.5, f.4) })
 
 holds : (p : Start) (h : History) (s : State) → Reached p h s → Holds p h s
 holds p [] s e = subst⁻¹ (λ (x : State). Holds p [] x) e (record { number = refl; limit = refl; step = refl; vacated = λ h. absurd (omega arith); fitting = (refl, refl, refl, refl) })
@@ -203,7 +197,7 @@ never_stuck_here : (p : Start) (h : History) (s : State) → Reached p h s → N
 never_stuck_here p h s reach r step a τ room run = (sound_runs p.limit (store s) r.tree r.need step a (passed r) room (stopped Stuck τ) run).0 refl
 
 -- what a grade that tells of a run comes to
-record Ran (s : State) (m k : ℕ) (r : Accepted) (a : ℕ) (w : ℕ × ℕ × ℕ) (x : Answer) (y : RunAnswer) : Type 0 where
+record Ran (s : State) (m k : ℕ) (r : Accepted) (a : ℕ) (w : ℕ × ℕ × ℕ) (x : Reply) (y : RunAnswer) : Type 0 where
   new : ℤ
   ls : List ℕ
   zs : List ℤ
@@ -213,7 +207,7 @@ record Ran (s : State) (m k : ℕ) (r : Accepted) (a : ℕ) (w : ℕ × ℕ × �
   comes : told (answer r.tree new a) ≡ Some y
   says : x ≡ said k y
 
-abbrev RanBy : State → Answer → RunAnswer → Call → Type 0
+abbrev RanBy : State → Reply → RunAnswer → Call → Type 0
 RanBy s x y (lay n) = Unit {0}
 RanBy s x y (open_to t) = Unit {0}
 RanBy s x y (grade m k r a w) = Ran s m k r a w x y
@@ -221,11 +215,11 @@ RanBy s x y (keep m) = Unit {0}
 RanBy s x y (undo m) = Unit {0}
 RanBy s x y (show k) = Unit {0}
 
-moved : (s : State) (m₁ k₁ : ℕ) (r₁ : Accepted) (a₁ : ℕ) (w₁ : ℕ × ℕ × ℕ) (m k : ℕ) (r : Accepted) (a : ℕ) (w : ℕ × ℕ × ℕ) (x : Answer) (y : RunAnswer)
+moved : (s : State) (m₁ k₁ : ℕ) (r₁ : Accepted) (a₁ : ℕ) (w₁ : ℕ × ℕ × ℕ) (m k : ℕ) (r : Accepted) (a : ℕ) (w : ℕ × ℕ × ℕ) (x : Reply) (y : RunAnswer)
     → grade m₁ k₁ r₁ a₁ w₁ ≡ grade m k r a w → Ran s m₁ k₁ r₁ a₁ w₁ x y → Ran s m k r a w x y
 moved s m₁ k₁ r₁ a₁ w₁ m k r a w x y e g = subst (RanBy s x y) e g
 
-ran : (s : State) (c : Call) (x : Answer) (s' : State) (m k : ℕ) (r : Accepted) (a : ℕ) (w : ℕ × ℕ × ℕ) (y : RunAnswer)
+ran : (s : State) (c : Call) (x : Reply) (s' : State) (m k : ℕ) (r : Accepted) (a : ℕ) (w : ℕ × ℕ × ℕ) (y : RunAnswer)
     → c ≡ grade m k r a w → run_of x ≡ Some y → Moves s c x s' → Ran s m k r a w x y
 ran s c x s' m k r a w y e ey (refuses f ex eo es) = let q : run_of x ≡ None = ap run_of ex ∙ eo in never (cc)
 ran s c x s' m k r a w y e ey (shows j ec lt ex es) = never (cc)
@@ -234,7 +228,7 @@ ran s c x s' m k r a w y e ey (opens t ls zs ec em ex es) = never (cc)
 ran s c x s' m k r a w y e ey (keeps j t ls zs bs gs ec em all ex es) = never (cc)
 ran s c x s' m k r a w y e ey (undoes j t ls zs bs gs ec em ex es) = never (cc)
 ran s c x s' m k r a w y e ey (stops m₁ k₁ r₁ b₁ w₁ t ls zs bs gs f ec rd q ex es) =
-    let ey₁ : y ≡ Err f = is (sym (told_stop (answer r₁.tree t b₁) k₁ f q) ∙ sym (ap run_of ex) ∙ ey) in
+    let ey₁ : y ≡ Err f = some_same (sym (told_stop (answer r₁.tree t b₁) k₁ f q) ∙ sym (ap run_of ex) ∙ ey) in
     moved s m₁ k₁ r₁ b₁ w₁ m k r a w x y (sym ec ∙ e) (record {
       new = t;
       ls = ls;
@@ -246,17 +240,17 @@ ran s c x s' m k r a w y e ey (stops m₁ k₁ r₁ b₁ w₁ t ls zs bs gs f ec
       says = ex ∙ ap (said k₁) (sym ey₁);
     })
 ran s c x s' m k r a w y e ey (grades m₁ k₁ r₁ b₁ w₁ t ls zs bs gs g ec rd q ex es) =
-    let ez : y ≡ Ok g = is (sym (ap run_of ex) ∙ ey) in
+    let ez : y ≡ Ok g = some_same (sym (ap run_of ex) ∙ ey) in
     moved s m₁ k₁ r₁ b₁ w₁ m k r a w x y (sym ec ∙ e) (record { new = t; ls = ls; zs = zs; bs = bs; gs = gs; ready = rd; comes = q ∙ ap Some (sym ez); says = ex ∙ ap (said k₁) (sym ez) })
 
 -- at the step of the resize, with room in the store, and all ready
-record RanWell (p : Start) (h : History) (s : State) (m k : ℕ) (r : Accepted) (a : ℕ) (w : ℕ × ℕ × ℕ) (x : Answer) (y : RunAnswer) : Type 0 where
+record RanWell (p : Start) (h : History) (s : State) (m k : ℕ) (r : Accepted) (a : ℕ) (w : ℕ × ℕ × ℕ) (x : Reply) (y : RunAnswer) : Type 0 where
   room : live (store s) + r.need ≤ p.limit
   comes : told (answer r.tree (open_step h) a) ≡ Some y
   says : x ≡ said k y
   ready : Ready p h s m k r w
 
-ran_well : (p : Start) (h : History) (s s' : State) (m k : ℕ) (r : Accepted) (a : ℕ) (w : ℕ × ℕ × ℕ) (x : Answer) (y : RunAnswer)
+ran_well : (p : Start) (h : History) (s s' : State) (m k : ℕ) (r : Accepted) (a : ℕ) (w : ℕ × ℕ × ℕ) (x : Reply) (y : RunAnswer)
     → Reached p h s → Does s (grade m k r a w) x s' → run_of x ≡ Some y → RanWell p h s m k r a w x y
 ran_well p h s s' m k r a w x y reach d e =
     let H = holds p h s reach in
@@ -277,7 +271,7 @@ ran_well p h s s' m k r a w x y reach d e =
 
 tells : (c : Com) (step : ℤ) (a : ℕ) (σ : Memory) (y : RunAnswer) (o : Out ℤ) → told (answer c step a) ≡ Some y → AsAnswered c step a σ o → Tells y a σ o
 tells c step a σ y (stopped s τ) e h = (sym (ap told h.1) ∙ e, h.2)
-tells c step a σ y (ended z τ u) e h = (is (sym (ap told h.1) ∙ e), h.0, h.2)
+tells c step a σ y (ended z τ u) e h = (some_same (sym (ap told h.1) ∙ e), h.0, h.2)
 
 faithful : (p : Start) (h : History) (s : State) → Reached p h s → Faithful p h s
 faithful p h s reach m k r a w x s' y d e =
@@ -316,7 +310,7 @@ reaches p h s reach m k r a w x s' d = (there, λ q. (ran_well p h s s' m k r a 
     there rd =
         let H = holds p h s reach in
         let (y, e, q) = go H rd s.mode H.fitting in
-        (y, ap run_of (is (sym e ∙ d.answers)) ∙ q)
+        (y, ap run_of (some_same (sym e ∙ d.answers)) ∙ q)
 
 live_points : (p : Start) (h : History) (s : State) → Reached p h s → Live p h s
 live_points p h s reach some_laid = let H = holds p h s reach in go H s.mode H.fitting
@@ -331,16 +325,16 @@ live_points p h s reach some_laid = let H = holds p h s reach in go H s.mode H.f
 came : (c : Com) (step : ℤ) (a : ℕ) (y : RunAnswer) → Came c step a y → told (answer c step a) ≡ Some y
 came c step a y k =
     let (s, reach, d) = k.performed in
-    let g = ran_well k.piece k.before s k.after k.ticket k.point k.rule a k.lists k.answer y reach d k.ran in
+    let g = ran_well k.piece k.before s k.after k.ticket k.point k.rule a k.lists k.reply y reach d k.ran in
     ap₂ (λ (b : Com) (t : ℤ). told (answer b t a)) (sym k.by) (sym k.in_step) ∙ g.comes
 
 pub alike : Alike
-alike c step a y y' k k' = is (sym (came c step a y' k') ∙ came c step a y k)
+alike c step a y y' k k' = some_same (sym (came c step a y' k') ∙ came c step a y k)
 
 pub steady : Steady
 steady c step a z u k =
     let (t, mean, n, from, below) = steadily c step a z u (told_ok (answer c step a) (graded z u) (came c step a (Ok (graded z u)) k)) in
-    (t, mean, n, λ b y k'. let e = came c step b y k' in (λ l. is (sym (ap told (from b l)) ∙ e), λ l. is (sym (ap told (below b l)) ∙ e)))
+    (t, mean, n, λ b y k'. let e = came c step b y k' in (λ l. some_same (sym (ap told (from b l)) ∙ e), λ l. some_same (sym (ap told (below b l)) ∙ e)))
 
 -- shifts
 seen : (p : Start) (h : History) (s : State) (k : ℕ) (ls : List ℕ) (zs : List ℤ) (m : Mode) → Holds p h s → s.mode ≡ m
@@ -351,8 +345,8 @@ seen p h s k ls zs m H e ez el eh f q lt =
       subst⁻¹ (λ (x : Mode). store_of x (get_or (locations_of x) k 0) ≡ Some (whole_value (get_or zs k (pos 0)))) e
           (ap₂ (λ (σ : Memory) (js : List ℕ). σ (get_or js k 0)) eh el ∙ held_at ls zs k f q lt),
       λ x s' d.
-          let q : (does_show s k zs).0 ≡ Some (shown (get_or zs k (pos 0)) (kept_step h)) = rw (below, H.step) refl in
-          is (sym (ap (λ (x : Mode). (does_show s k (shifts_of x)).0) e ∙ ap (λ (ys : List ℤ). (does_show s k ys).0) ez ∙ q) ∙ d.answers),
+          let q : (does_show s k zs).0 ≡ Some (Ok (shown (get_or zs k (pos 0)) (kept_step h))) = rw (below, H.step) refl in
+          some_same (sym (ap (λ (x : Mode). (does_show s k (shifts_of x)).0) e ∙ ap (λ (ys : List ℤ). (does_show s k ys).0) ez ∙ q) ∙ d.answers),
     )
 
 stands : (p : Start) (h : History) (s : State) → Reached p h s → Stands p h s
@@ -381,14 +375,14 @@ stands_open p h s reach k on lt = let H = holds p h s reach in go H s.mode refl 
 
 after_some : (o : Option ℕ) (i : ℕ) → after_true o ≡ Some i → (j : ℕ) × (o ≡ Some j) × (i ≡ suc j)
 after_some None i e = never (cc)
-after_some (Some j) i e = (j, refl, is e)
+after_some (Some j) i e = (j, refl, some_same e)
 
 -- the lowest that is not graded
 lowest : (gs : List Bool) (i : ℕ) → lowest_false gs ≡ Some i
     → (i < length gs) × (get_or gs i false ≡ false) × ((j : ℕ) → j < i → get_or gs j false ≡ true)
 lowest [] i e = never (cc)
 lowest (false ∷ gs) i e =
-    subst⁻¹ (λ (n : ℕ). (n < length (false ∷ gs)) × (get_or (false ∷ gs) n false ≡ false) × ((j : ℕ) → j < n → get_or (false ∷ gs) j false ≡ true)) (is e)
+    subst⁻¹ (λ (n : ℕ). (n < length (false ∷ gs)) × (get_or (false ∷ gs) n false ≡ false) × ((j : ℕ) → j < n → get_or (false ∷ gs) j false ≡ true)) (some_same e)
     (omega arith, refl, λ j lt. absurd (omega arith))
 lowest (true ∷ gs) i e =
     let (k, q, n) = after_some (lowest_false gs) i e in
@@ -404,8 +398,8 @@ keeps_told : (p : Start) (h : History) (s : State) → Reached p h s → Keeps p
 keeps_told p h s reach x s' d on = let H = holds p h s reach in go H s.mode d.answers H.fitting
   where
     Told : Type 0
-    Told = (AllGraded h (points h) × (x ≡ Kept (open_step h)))
-        ⊎ ((k : ℕ) × (k < points h) × AllGraded h k × (open_rules h k ≡ None) × (x ≡ Refused (fault (layers.Piece causes.Ungraded) k)))
+    Told = (AllGraded h (points h) × (x ≡ Ok (Kept (open_step h))))
+        ⊎ ((k : ℕ) × (k < points h) × AllGraded h k × (open_rules h k ≡ None) × (x ≡ Err (fault (layers.Piece causes.Ungraded) k)))
 
     go : Holds p h s → (m : Mode) → (does_keep s p.number m).0 ≡ Some x → Fitting p.held (resizing h) (points h) (kept_rules h) (kept_step h) (open_rules h) (open_step h) m → Told
     go H (bare σ) e f = absurd (both_ways _ f.0 on)
@@ -417,45 +411,45 @@ keeps_told p h s reach x s' d on = let H = holds p h s reach in go H s.mode d.an
         by_rule j lt q = graded_by (open_rules h j) (sym (f.8 j lt).0 ∙ q)
 
         at : (o : Option ℕ) → lowest_false gs ≡ o → (does_end s t ls zs o).0 ≡ Some x → Told
-        at None q e = inl (λ j lt. by_rule j lt (true_at gs j q (subst⁻¹ (λ n. j < n) f.6 lt)), is e ∙ ap {B = Answer} Kept f.7)
+        at None q e = inl (λ j lt. by_rule j lt (true_at gs j q (subst⁻¹ (λ n. j < n) f.6 lt)), some_same e ∙ ap {B = Reply} (λ (t : ℤ). Ok (Kept t)) f.7)
         at (Some k) q e =
             let (a, b, c) = lowest gs k q in
             let l = f.6 in
-            inr (k, omega arith, λ j lt. by_rule j (omega arith) (c j lt), ungraded (open_rules h k) (sym (f.8 k (omega arith)).0 ∙ b), is e)
+            inr (k, omega arith, λ j lt. by_rule j (omega arith) (c j lt), ungraded (open_rules h k) (sym (f.8 k (omega arith)).0 ∙ b), some_same e)
 
 undoes_told : (p : Start) (h : History) (s : State) → Reached p h s → Undoes p h s
 undoes_told p h s reach x s' d on = let H = holds p h s reach in go H s.mode d.answers H.fitting
   where
     go : Holds p h s → (m : Mode) → (does_undo s p.number m).0 ≡ Some x → Fitting p.held (resizing h) (points h) (kept_rules h) (kept_step h) (open_rules h) (open_step h) m
-        → x ≡ Undone (kept_step h)
+        → x ≡ Ok (Undone (kept_step h))
     go H (bare σ) e f = absurd (both_ways _ f.0 on)
     go H (laid ls zs) e f = absurd (both_ways _ f.0 on)
     go H (opened t ls zs bs gs) e f =
-        let q : (does_undo s p.number (opened t ls zs bs gs)).0 ≡ Some (Undone (kept_step h)) = rw (eq-eqb p.number s.number (sym H.number), H.step) refl in
-        is (sym q ∙ e)
+        let q : (does_undo s p.number (opened t ls zs bs gs)).0 ≡ Some (Ok (Undone (kept_step h))) = rw (eq-eqb p.number s.number (sym H.number), H.step) refl in
+        some_same (sym q ∙ e)
 
 -- since a resize was opened from a laid state: it is still open, or Some points are laid and quiet is open
 data Since (s₀ : State) (ls : List ℕ) (xs : List ℤ) (s : State) : Type 0 where
   still : (t : ℤ) (ys : List ℤ) (gs : List Bool) → s ≡ with_mode s₀ (opened t ls ys xs gs) → Since s₀ ls xs s
   over : (ks : List ℕ) (ys : List ℤ) → s.mode ≡ laid ks ys → Since s₀ ls xs s
 
-not_opened : (a : Answer) (m : ℕ) (b : Bool) → a ≡ Ticket m → none_opened_at a b ≡ true → ⊥
-not_opened a m b e h = both_ways false refl (subst (λ (x : Answer). none_opened_at x b ≡ true) e h)
+not_opened : (a : Reply) (m : ℕ) (b : Bool) → a ≡ Ok (Ticket m) → none_opened_at a b ≡ true → ⊥
+not_opened a m b e h = both_ways false refl (subst (λ (x : Reply). none_opened_at x b ≡ true) e h)
 
-rest_opens_quiet : (a : Answer) (b : Bool) → none_opened_at a b ≡ true → b ≡ true
-rest_opens_quiet Laid b e = e
-rest_opens_quiet (Ticket n) b e = absurd (both_ways false refl e)
-rest_opens_quiet (Graded g) b e = e
-rest_opens_quiet (Kept t) b e = e
-rest_opens_quiet (Undone t) b e = e
-rest_opens_quiet (Shown w) b e = e
-rest_opens_quiet (Refused f) b e = e
+rest_opens_quiet : (a : Reply) (b : Bool) → none_opened_at a b ≡ true → b ≡ true
+rest_opens_quiet (Ok Laid) b e = e
+rest_opens_quiet (Ok (Ticket n)) b e = absurd (both_ways false refl e)
+rest_opens_quiet (Ok (Graded g)) b e = e
+rest_opens_quiet (Ok (Kept t)) b e = e
+rest_opens_quiet (Ok (Undone t)) b e = e
+rest_opens_quiet (Ok (Shown w)) b e = e
+rest_opens_quiet (Err f) b e = e
 
 mode_is : (s s₀ : State) (m m' : Mode) → s ≡ with_mode s₀ m → s.mode ≡ m' → m ≡ m'
 mode_is s s₀ m m' e f = sym (ap (λ (x : State). x.mode) e) ∙ f
 
 module _ (s₀ : State) (ls : List ℕ) (xs : List ℤ) where
-  since_moves : (s : State) (c : Call) (a : Answer) (s' : State) (b : Bool) → none_opened_at a b ≡ true → Since s₀ ls xs s → Moves s c a s' → Since s₀ ls xs s'
+  since_moves : (s : State) (c : Call) (a : Reply) (s' : State) (b : Bool) → none_opened_at a b ≡ true → Since s₀ ls xs s → Moves s c a s' → Since s₀ ls xs s'
   since_moves s c a s' b quiet S (refuses f ea eo es) = subst⁻¹ (Since s₀ ls xs) es S
   since_moves s c a s' b quiet S (stops m k r d w t ks zs bs gs f ec rd q ea es) = subst⁻¹ (Since s₀ ls xs) es S
   since_moves s c a s' b quiet S (shows k ec lt ea es) = subst⁻¹ (Since s₀ ls xs) es S
@@ -474,7 +468,7 @@ module _ (s₀ : State) (ls : List ℕ) (xs : List ℤ) where
   since_moves s c a s' b quiet S (undoes m t ks zs bs gs ec em ea es) = over ks bs (ap (λ (x : State). x.mode) es)
 
   -- an undo that is not refused
-  undo_back : (s : State) (c : Call) (t : ℤ) (a : Answer) (s' : State) → a ≡ Undone t → s₀.mode ≡ laid ls xs → Since s₀ ls xs s → Moves s c a s' → s' ≡ s₀
+  undo_back : (s : State) (c : Call) (t : ℤ) (a : Reply) (s' : State) → a ≡ Ok (Undone t) → s₀.mode ≡ laid ls xs → Since s₀ ls xs s → Moves s c a s' → s' ≡ s₀
   undo_back s c t a s' e e₀ S (refuses f ea eo es) = never (cc)
   undo_back s c t a s' e e₀ S (stops m k r d w v ks zs bs gs f ec rd q ea es) = never (cc)
   undo_back s c t a s' e e₀ S (shows k ec lt ea es) = never (cc)
@@ -496,7 +490,7 @@ record Began (s s' : State) : Type 0 where
   was : s.mode ≡ laid ls xs
   since : Since s ls xs s'
 
-began : (s : State) (c : Call) (j : ℕ) (a : Answer) (s' : State) → a ≡ Ticket j → Moves s c a s' → Began s s'
+began : (s : State) (c : Call) (j : ℕ) (a : Reply) (s' : State) → a ≡ Ok (Ticket j) → Moves s c a s' → Began s s'
 began s c j a s' e (refuses f ea eo es) = never (cc)
 began s c j a s' e (stops m k r d w v ks zs bs gs f ec rd q ea es) = never (cc)
 began s c j a s' e (shows k ec lt ea es) = never (cc)
@@ -506,10 +500,10 @@ began s c j a s' e (grades m k r d w u ks zs bs hs y ec rd q ea es) = never (cc)
 began s c j a s' e (keeps m u ks zs bs gs ec em all ea es) = never (cc)
 began s c j a s' e (undoes m u ks zs bs gs ec em ea es) = never (cc)
 
-went : (s₀ : State) (j : ℕ) (u : ℤ) (r : History) (s : State) → none_opened r ≡ true → Goes s₀ (r ++ (open_to u, Ticket j) ∷ []) s → Began s₀ s
+went : (s₀ : State) (j : ℕ) (u : ℤ) (r : History) (s : State) → none_opened r ≡ true → Goes s₀ (r ++ (open_to u, Ok (Ticket j)) ∷ []) s → Began s₀ s
 went s₀ j u [] s quiet g =
     let (s₁, e, d) = g in
-    subst (λ (x : State). Began x s) e (began s₁ (open_to u) j (Ticket j) s refl (does_moves s₁ (open_to u) (Ticket j) s d))
+    subst (λ (x : State). Began x s) e (began s₁ (open_to u) j (Ok (Ticket j)) s refl (does_moves s₁ (open_to u) (Ok (Ticket j)) s d))
 went s₀ j u (e ∷ r) s quiet g =
     let (s₁, g₁, d) = g in
     let w = went s₀ j u r s₁ (rest_opens_quiet e.1 (none_opened r) quiet) g₁ in
@@ -519,9 +513,9 @@ pub undone_wholly : UndoneWholly
 undone_wholly s s' m j t u during quiet g =
     let (s₁, g₁, d) = g in
     let w = went s j u during s₁ quiet g₁ in
-    undo_back s w.ls w.xs s₁ (undo m) t (Undone t) s' refl w.was w.since (does_moves s₁ (undo m) (Undone t) s' d)
+    undo_back s w.ls w.xs s₁ (undo m) t (Ok (Undone t)) s' refl w.was w.since (does_moves s₁ (undo m) (Ok (Undone t)) s' d)
 
-refused_same : (s s' : State) (c : Call) (a : Answer) (f : Fault) → a ≡ Refused f → Moves s c a s' → s' ≡ s
+refused_same : (s s' : State) (c : Call) (a : Reply) (f : Fault) → a ≡ Err f → Moves s c a s' → s' ≡ s
 refused_same s s' c a f e (refuses f₁ ea eo es) = es
 refused_same s s' c a f e (stops m k r d w v ks zs bs gs f₁ ec rd q ea es) = es
 refused_same s s' c a f e (shows k ec lt ea es) = es
@@ -532,7 +526,7 @@ refused_same s s' c a f e (keeps m u ks zs bs gs ec em all ea es) = never (cc)
 refused_same s s' c a f e (undoes m u ks zs bs gs ec em ea es) = never (cc)
 
 pub refused_wholly : RefusedWholly
-refused_wholly s s' c f d = refused_same s s' c (Refused f) f refl (does_moves s c (Refused f) s' d)
+refused_wholly s s' c f d = refused_same s s' c (Err f) f refl (does_moves s c (Err f) s' d)
 
 pub always : Always
 always p h s reach = record {

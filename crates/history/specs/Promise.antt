@@ -14,9 +14,8 @@ use Rattle.language.specs.Reference.{graded}
 use Rattle.language.specs.Outcome.{told}
 use Rattle.language.specs.Runs.{Out, ended, stopped, runs}
 use Rattle.language.specs.Laws.{commands, units}
-use Rattle.history.specs.declared.answers.Answer.{Answer}
-use Rattle.history.specs.declared.answers.Answer.TheVariants.{Laid, Ticket, Kept, Undone, Refused}
-use Rattle.history.specs.States.{Accepted, Call, open_to, grade, keep, undo, show, State, locations_of, store_of, Apart, Free, lists_fit, shown, Does}
+use Rattle.history.specs.declared.answers.Answer.TheVariants.{Laid, Ticket, Kept, Undone}
+use Rattle.history.specs.States.{Accepted, Call, open_to, grade, keep, undo, show, State, Reply, locations_of, store_of, Apart, Free, lists_fit, shown, Does}
 use Rattle.history.specs.Histories.{History, Goes, Start, Reached, resizing, points, open_step, kept_step, Rules, open_rules, kept_rules, none_opened, RunAnswer, said, run_of}
 
 -- what a piece's own store holds
@@ -42,7 +41,7 @@ DueOpen (Some r) new kept step k z = (t : Trace) × Means r.tree new t z
 abbrev pub Seen : State → ℕ → ℤ → ℤ → Type 0
 Seen s k z step =
     (store s (slice_index (locations_of s.mode) k) ≡ Some (whole_value z))
-    × ((x : Answer) (s' : State) → Does s (show k) x s' → x ≡ shown z step)
+    × ((x : Reply) (s' : State) → Does s (show k) x s' → x ≡ Ok (shown z step))
 
 -- points that some rule graded in the resize opened last
 abbrev pub AllGraded : History → ℕ → Type 0
@@ -59,7 +58,7 @@ module _ (p : Start) (h : History) (s : State) where
   -- a grade that tells of a run tells the outcome of every run of its rule, at the resize's step, on the piece's own store; and there is one
   abbrev pub Faithful : Type 0
   Faithful =
-      (m k : ℕ) (r : Accepted) (a : ℕ) (w : ℕ × ℕ × ℕ) (x : Answer) (s' : State) (y : RunAnswer)
+      (m k : ℕ) (r : Accepted) (a : ℕ) (w : ℕ × ℕ × ℕ) (x : Reply) (s' : State) (y : RunAnswer)
       → Does s (grade m k r a w) x s' → run_of x ≡ Some y
       → (x ≡ said k y)
       × ((o : Out ℤ) → runs p.limit r.tree (open_step h) (store s) a o → Tells y a (store s) o)
@@ -73,7 +72,7 @@ module _ (p : Start) (h : History) (s : State) where
   -- a grade tells of a run exactly when all is ready for one
   abbrev pub Reaches : Type 0
   Reaches =
-      (m k : ℕ) (r : Accepted) (a : ℕ) (w : ℕ × ℕ × ℕ) (x : Answer) (s' : State)
+      (m k : ℕ) (r : Accepted) (a : ℕ) (w : ℕ × ℕ × ℕ) (x : Reply) (s' : State)
       → Does s (grade m k r a w) x s' → Ready m k r w ↔ ((y : RunAnswer) × (run_of x ≡ Some y))
 
   -- once laid, the points have locations of their own, and those are all that is live: nothing was before, and no run leaves any behind
@@ -97,13 +96,13 @@ module _ (p : Start) (h : History) (s : State) where
   -- with its ticket, in an open resize, a keep gives the new step if all points are graded, and else the refusal at the lowest that is not
   abbrev pub Keeps : Type 0
   Keeps =
-      (x : Answer) (s' : State) → Does s (keep p.number) x s' → resizing h ≡ true
-      → (AllGraded h (points h) × (x ≡ Kept (open_step h)))
-      ⊎ ((k : ℕ) × (k < points h) × AllGraded h k × (open_rules h k ≡ None) × (x ≡ Refused (fault (Piece Ungraded) k)))
+      (x : Reply) (s' : State) → Does s (keep p.number) x s' → resizing h ≡ true
+      → (AllGraded h (points h) × (x ≡ Ok (Kept (open_step h))))
+      ⊎ ((k : ℕ) × (k < points h) × AllGraded h k × (open_rules h k ≡ None) × (x ≡ Err (fault (Piece Ungraded) k)))
 
   -- with its ticket, in an open resize, an undo gives the step of the resize kept last
   abbrev pub Undoes : Type 0
-  Undoes = (x : Answer) (s' : State) → Does s (undo p.number) x s' → resizing h ≡ true → x ≡ Undone (kept_step h)
+  Undoes = (x : Reply) (s' : State) → Does s (undo p.number) x s' → resizing h ≡ true → x ≡ Ok (Undone (kept_step h))
 
   pub record Here : Type 0 where
     pub never_stuck : NeverStuckHere
@@ -123,12 +122,12 @@ pub record Came (c : Com) (step : ℤ) (allowance : ℕ) (y : RunAnswer) : Type 
   pub point : ℕ
   pub rule : Accepted
   pub lists : ℕ × ℕ × ℕ
-  pub answer : Answer
+  pub reply : Reply
   pub after : State
-  pub performed : Reached piece ((grade ticket point rule allowance lists, answer) ∷ before) after
+  pub performed : Reached piece ((grade ticket point rule allowance lists, reply) ∷ before) after
   pub by : rule.tree ≡ c
   pub in_step : open_step before ≡ step
-  pub ran : run_of answer ≡ Some y
+  pub ran : run_of reply ≡ Some y
 
 -- after every history, all of the above
 abbrev pub Always : Type 0
@@ -151,17 +150,17 @@ Steady =
 abbrev pub UndoneWholly : Type 0
 UndoneWholly =
     (s s' : State) (m j : ℕ) (t u : ℤ) (during : History) → none_opened during ≡ true
-    → Goes s ((undo m, Undone t) ∷ (during ++ (open_to u, Ticket j) ∷ [])) s' → s' ≡ s
+    → Goes s ((undo m, Ok (Undone t)) ∷ (during ++ (open_to u, Ok (Ticket j)) ∷ [])) s' → s' ≡ s
 
 -- a refusal changes nothing
 abbrev pub RefusedWholly : Type 0
-RefusedWholly = (s s' : State) (c : Call) (f : Fault) → Does s c (Refused f) s' → s' ≡ s
+RefusedWholly = (s s' : State) (c : Call) (f : Fault) → Does s c (Err f) s' → s' ≡ s
 
 -- every call has an answer in every state
 abbrev pub Answered : Type 0
-Answered = (s : State) (c : Call) → (a : Answer) × (s' : State) × Does s c a s'
+Answered = (s : State) (c : Call) → (a : Reply) × (s' : State) × Does s c a s'
 
 -- and only one; what it leaves is left open only in a lay: which locations the points have
 abbrev pub AnsweredOnce : Type 0
 AnsweredOnce =
-    (s s' s'' : State) (c : Call) (a b : Answer) → Does s c a s' → Does s c b s'' → (a ≡ b) × ((a ≢ Laid) → s' ≡ s'')
+    (s s' s'' : State) (c : Call) (a b : Reply) → Does s c a s' → Does s c b s'' → (a ≡ b) × ((a ≢ Ok Laid) → s' ≡ s'')

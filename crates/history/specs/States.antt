@@ -16,7 +16,6 @@ use Rattle.language.specs.Reference.{answer}
 use Rattle.language.specs.Outcome.{told}
 use Rattle.history.specs.declared.answers.Answer.{Answer}
 use Rattle.history.specs.declared.answers.Answer.TheVariants as answers
-use Rattle.history.specs.declared.answers.Answer.TheVariants.{Refused}
 
 -- an accepted rule: its table, the tree that it reads as, and its need of locations
 pub record Accepted : Type 0 where
@@ -98,16 +97,23 @@ abbrev pub lowest_false : List Bool → Option ℕ
 lowest_false [] = None
 lowest_false (g ∷ gs) = cond g (after_true (lowest_false gs)) (Some 0)
 
--- what a call comes to: its answer, if it has one, and the state that it leaves
+-- how a call is answered: by an answer, or by a refusal
+abbrev pub Reply : Type 0
+Reply = Result Answer Fault
+
+-- what a call comes to: how it is answered, if it is, and the state that it leaves
 abbrev pub Outcome : Type 0
-Outcome = Option Answer × State
+Outcome = Option Reply × State
 
 abbrev pub answers_with : Answer → State → Outcome
-answers_with a s = (Some a, s)
+answers_with a s = (Some (Ok a), s)
+
+abbrev pub refuses_with : Fault → State → Outcome
+refuses_with f s = (Some (Err f), s)
 
 -- a refusal of the piece itself leaves the state as it was
 abbrev pub refused : PieceCause → (place : ℕ) → State → Outcome
-refused cause place = answers_with (Refused (fault (Piece cause) place))
+refused cause place = refuses_with (fault (Piece cause) place)
 
 -- a refusal from below, with the point that was to be graded
 abbrev pub at_point : ℕ → Fault → Fault
@@ -135,7 +141,7 @@ does_open s t (opened u ls zs bs gs) = refused causes.NotReady 0 s
 abbrev pub does_run : State → ℕ → ℤ → List ℕ → List ℤ → List ℤ → List Bool → Option (Result Graded Fault) → Outcome
 does_run s k t ls zs bs gs (Some (Ok g)) =
     answers_with (answers.Graded g) (with_mode s (opened t ls (slice_set zs k g.shift) bs (slice_set gs k true)))
-does_run s k t ls zs bs gs (Some (Err f)) = answers_with (Refused (at_point k f)) s
+does_run s k t ls zs bs gs (Some (Err f)) = refuses_with (at_point k f) s
 does_run s k t ls zs bs gs None = (None, s)
 
 -- each work list is at least two records longer than the table
@@ -156,7 +162,7 @@ does_grade s m k r a w (opened t ls zs bs gs) =
     (nat_le (live (holding ls zs) + r.need) s.limit)
     (does_run s k t ls zs bs gs (told (answer r.tree t a)))
     (refused causes.Room 0 s))
-    (answers_with (Refused (at_point k (fault (Table WorkLists) 0))) s))
+    (refuses_with (at_point k (fault (Table WorkLists) 0)) s))
     (refused causes.Point k s))
     (refused causes.Ticket 0 s)
 
@@ -200,9 +206,9 @@ asked_points (keep m) = 0
 asked_points (undo m) = 0
 asked_points (show k) = 0
 
--- before the call, what it answers, and after it: only which locations a lay hands out is left open
-pub record Does (before : State) (call : Call) (answer : Answer) (after : State) : Type 0 where
+-- before the call, how it is answered, and after it: only which locations a lay hands out is left open
+pub record Does (before : State) (call : Call) (reply : Reply) (after : State) : Type 0 where
   pub handed : List ℕ
-  pub free : answer ≡ answers.Laid → (length handed ≡ asked_points call) × Free handed
-  pub answers : (does handed before call).0 ≡ Some answer
+  pub free : reply ≡ Ok answers.Laid → (length handed ≡ asked_points call) × Free handed
+  pub answers : (does handed before call).0 ≡ Some reply
   pub leaves : after ≡ (does handed before call).1

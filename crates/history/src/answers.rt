@@ -1,5 +1,5 @@
 // What a piece answers.
-use language::{Fault, Graded, Number};
+use language::{Graded, Number};
 
 // A point's shift, and the piece's step.
 #[derive(Clone, Copy)]
@@ -8,7 +8,7 @@ pub struct Shown {
     pub step: Number,
 }
 
-// The answer of any call, as a value.
+// What a call gives if it is not refused, as a value.
 #[derive(Clone, Copy)]
 pub enum Answer {
     Laid,
@@ -20,5 +20,4 @@ pub enum Answer {
     // the piece's step after an undo
     Undone(Number),
     Shown(Shown),
-    Refused(Fault),
 }

@@ -63,7 +63,7 @@ pub enum PlaceKind {
     Nothing,
 }
 
-// A refusal: the layer with its cause, the place, and the point that a grade adds to what comes from below it.
+// A refusal, in the form that is fixed: the layer with its cause, the place, and the point that a grade adds to what comes from below it.
 #[derive(Clone, Copy, Debug, PartialEq, Eq)]
 pub struct Fault {
     pub layer: Layer,
@@ -104,7 +104,7 @@ impl From<PieceCause> for Layer {
 }
 
 impl Layer {
-    // The number of the question that said no.
+    // The number of the question that said no; as a `From` it would not be said at its uses what the number is.
     pub fn number(self) -> u8
         ensures { result ≡ number_of self }
     {

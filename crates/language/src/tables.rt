@@ -1,22 +1,27 @@
 // The table form of a rule.
 ghost use Rattle.std.specs.Prelude.{◌≡◌};
-ghost use Rattle.language.specs.Kinds.{numbered, with_number, kind_of};
+ghost use Rattle.language.specs.Kinds.{numbered, kind_of};
 ghost use Rattle.language.specs.Same.{same};
 ghost use Rattle.language.specs.Table.{type_of};
 
 use crate::values::{Number, Scalar};
 
-// A name in a table: 0 is `in`, 1 is `out`.
+// A name in a table.
 pub type Name = u16;
 
-// Whether two names are the same name.
+// The two names that are in sight for the whole rule: the step, and what the rule gives.
+pub const IN: Name = 0;
+
+pub const OUT: Name = 1;
+
+// Whether two names are the same name. All that asks it asks here, so that names can become something else in one place.
 pub fn same_name(a: Name, b: Name) -> bool
     ensures { result ≡ same a b }
 {
     a == b
 }
 
-// One node of a table, as it comes in: a number that is no kind is allowed here.
+// One node of a table, in the fixed form in which it comes in: a number that is no kind is allowed here.
 #[derive(Clone, Copy, PartialEq, Eq)]
 pub struct Node {
     pub kind: u8,
@@ -28,7 +33,7 @@ pub struct Node {
 }
 
 impl Node {
-    // The type that the node gives a variable, where it is a declaration.
+    // The type that the node gives a variable; no `From`, since it is one only where the node is a declaration.
     pub fn declared_type(self) -> Scalar
         ensures { result ≡ type_of self.value }
     {
@@ -87,15 +92,6 @@ impl TryFrom<u8> for Kind {
             14 => Ok(Kind::Block),
             _ => Err(UnknownKind),
         }
-    }
-}
-
-impl Kind {
-    // The kind with this number, if there is one.
-    pub fn from_number(number: u8) -> Option<Kind>
-        ensures { result ≡ with_number number }
-    {
-        Kind::try_from(number).ok()
     }
 }
 

@@ -15,7 +15,7 @@ pub enum Scalar {
 }
 
 impl Scalar {
-    // What a variable of this type holds when it is taken.
+    // What a variable of this type holds when it is taken; as a `From` it would not be said at its uses which value.
     pub fn first_value(self) -> Value
         ensures { result ≡ initial_value self }
     {

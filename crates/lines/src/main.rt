@@ -1,11 +1,10 @@
 // Checks every sample rule; then holds one size's shifts of a small piece on each store, and shows what a store refuses.
 #![tactic(auto)]
 
-use anyhow::anyhow;
 use byte_store::ByteStore;
 use language::{Number, Scalar, Value};
 use record_store::{Cell, RecordStore};
-use rule::{Entry, Rule, check};
+use rule::{CheckLists, Entry, Rule, check};
 use samples::{Sample, sample_lines};
 use scope::Record;
 use store::{Dead, Full, Store, WriteRefusal};
@@ -29,17 +28,16 @@ fn show_count<S: Store>(rt: &HostRuntime, store: &S) -> anyhow::Result<()> {
 // A location for each point, holding 0.
 fn take_points<S: Store>(store: &mut S) -> Result<[u16; POINTS], Full> {
     let mut locations = [0; POINTS];
-    for i in 0..POINTS {
-        locations[i] = store.take(Value::Whole(0))?;
+    for location in &mut locations {
+        *location = store.take(Value::Whole(0))?;
     }
     Ok(locations)
 }
 
 fn show_read(rt: &HostRuntime, location: u16, answer: Result<Value, Dead>) -> anyhow::Result<()> {
     match answer {
-        Ok(Value::Whole(shift)) => println!(rt; "location {location} holds {shift}")?,
-        Ok(Value::Truth(truth)) => println!(rt; "location {location} holds {truth}")?,
-        Err(Dead) => println!(rt; "location {location}: dead")?,
+        Ok(value) => println!(rt; "location {location} holds {value}")?,
+        Err(refusal) => println!(rt; "location {location}: {refusal}")?,
     }
     Ok(())
 }
@@ -51,8 +49,7 @@ fn show_write(
 ) -> anyhow::Result<()> {
     match answer {
         Ok(()) => println!(rt; "location {location} written")?,
-        Err(WriteRefusal::Dead) => println!(rt; "location {location}: dead")?,
-        Err(WriteRefusal::Kind) => println!(rt; "location {location}: kind")?,
+        Err(refusal) => println!(rt; "location {location}: {refusal}")?,
     }
     Ok(())
 }
@@ -60,16 +57,9 @@ fn show_write(
 // The whole task on one store: take, write, read back, two refusals, release.
 fn hold_shifts<S: Store>(rt: &HostRuntime, store: &mut S) -> anyhow::Result<()> {
     show_count(rt, store)?;
-    let locations = match take_points(store) {
-        Ok(locations) => locations,
-        Err(Full) => return Err(anyhow!("the store is full")),
-    };
-    for i in 0..POINTS {
-        show_write(
-            rt,
-            locations[i],
-            store.write(locations[i], Value::Whole(SHIFTS[i])),
-        )?;
+    let locations = take_points(store)?;
+    for (location, shift) in locations.into_iter().zip(SHIFTS) {
+        show_write(rt, location, store.write(location, Value::Whole(shift)))?;
     }
     for location in locations {
         show_read(rt, location, store.read(location))?;
@@ -94,9 +84,14 @@ fn check_sample(rt: &HostRuntime, sample: Sample) -> anyhow::Result<()> {
     let mut types = [Scalar::Whole; WORK];
     let mut rule = Rule::built_in();
     let name = sample.name;
-    match check(&mut rule, sample.nodes, &mut lens, &mut names, &mut types) {
+    let lists = CheckLists {
+        lens: &mut lens,
+        names: &mut names,
+        types: &mut types,
+    };
+    match check(&mut rule, sample.nodes, lists) {
         Ok(()) => println!(rt; "{name} accepted {}", rule.need())?,
-        Err(fault) => println!(rt; "{name} no {} {}", fault.layer.number(), fault.place)?,
+        Err(fault) => println!(rt; "{name} {fault}")?,
     }
     Ok(())
 }

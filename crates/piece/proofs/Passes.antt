@@ -1,11 +1,17 @@
 -- What a pass over the points comes to. Assumes nothing.
-use Rattle.std.proofs.Common.{◌≡◌, ℕ, zero, suc, ◌+◌, ◌<◌, ◌≤◌, Bool, true, false, cond, List, [], ◌∷◌, ◌++◌, map, length, get_or, take, drop, set, replicate, ℤ, pos, Some, None, Ok, Option, sym, refl, ap, ◌∙◌, subst, ap₂, arith, below_more}
+use Rattle.std.proofs.Common.{◌≡◌, ℕ, zero, suc, ◌+◌, ◌<◌, ◌≤◌, Bool, true, false, cond, List, [], ◌∷◌, ◌++◌, map, length, get_or, take, set, replicate, ℤ, pos, Some, None, Ok, Err, Option, Result, rules, sym, refl, ap, ◌∙◌, subst, ap₂, arith}
+use Rattle.std.specs.Prelude.{not, position}
+use Rattle.std.specs.List.{position_from}
+use Rattle.std.proofs.lemmas.Iterator.Adapters.{position_from-zero}
+use Rattle.std.specs.Result.{IsOk}
 use mathlib.Core.Path.{fun_ext}
-use Rattle.std.proofs.lemmas.List.{length-map, length-take-le, length-replicate, length_push, take_more_set, map_push, replicate_more, get_or-map, get_or-take, take_at, take-map}
+use Rattle.std.proofs.lemmas.List.{length-map, length-take-le, length-replicate, length_push, take_more_set, map_push, replicate_more, get_or-map}
 use Rattle.language.specs.declared.values.Value.{Value}
 use Rattle.language.specs.declared.values.Value.TheVariants.{Whole as whole_value}
 use Rattle.language.specs.Memory.{Memory, put, live}
-use Rattle.store.specs.Calls.{write_answer}
+use Rattle.store.specs.declared.Full.{Full}
+use Rattle.store.specs.declared.WriteRefusal.{WriteRefusal}
+use Rattle.store.specs.Calls.{Taken, write_answer, after_call}
 use Rattle.piece.specs.declared.points.Point.{Point}
 use Rattle.history.specs.States.{holding, Apart, Free, after_true, lowest_false}
 use Rattle.piece.specs.Views.{shift_in, HoldsShift, AllHoldShifts, locations, shifts, remembered, marks, remembering, Placed}
@@ -15,6 +21,13 @@ use Rattle.piece.proofs.Fronts.{front, front_at, front_more, front_all, front_lo
 -- the element that a read past the end would give
 abbrev pub blank : Point
 blank = record { location = 0; remembered = pos 0; graded = false }
+
+-- a write of a shift where there is one
+pub writes : (r : Result (Unit {0}) WriteRefusal) (o : Option Value) (y z : ℤ) → r ≡ write_answer o (whole_value z) → o ≡ Some (whole_value y) → IsOk r
+writes r o y z q e = let h : r ≡ Ok tt = q ∙ ap (λ (v : Option Value). write_answer v (whole_value z)) e in search rules
+
+pub written : (r : Result (Unit {0}) WriteRefusal) (σ τ : Memory) (l : ℕ) (z z' : ℤ) → r ≡ Ok tt → τ ≡ after_call r σ l (Some (whole_value z)) → z ≡ z' → τ ≡ put σ l (Some (whole_value z'))
+written r σ τ l z z' e h q = h ∙ ap (λ (x : Result (Unit {0}) WriteRefusal). after_call x σ l (Some (whole_value z))) e ∙ ap (λ (v : ℤ). put σ l (Some (whole_value v))) q
 
 -- locations are taken
 pub placed_none : (σ : Memory) → ((l : ℕ) → σ l ≡ None) → Placed σ []
@@ -44,11 +57,19 @@ pub placed_more : (σ σ' : Memory) (ps : List Point) (i : ℕ) (x : Point) → 
     → σ' ≡ put σ x.location (Some (whole_value (pos 0))) → Placed σ' (take (i + 1) (set ps i x))
 placed_more σ σ' ps i x p h low new after = subst (Placed σ') (sym (take_more_set ps i x h)) (push σ σ' (take i ps) x p low new after)
 
-pub placed_room : (σ : Memory) (ps : List Point) (i limit : ℕ) → Placed σ (take i ps) → i ≤ length ps → i < limit → live σ ≡ limit → ⊥
+placed_room : (σ : Memory) (ps : List Point) (i limit : ℕ) → Placed σ (take i ps) → i ≤ length ps → i < limit → live σ ≡ limit → ⊥
 placed_room σ ps i limit p h room full =
     let e = placed_live σ (take i ps) p in
     let l = length-take-le i ps h in
     omega arith
+
+-- a store with room beside the points placed so far takes one more
+pub placed_takes : (σ τ : Memory) (ps : List Point) (i limit : ℕ) (v : Value) (r : Result ℕ Full) → Placed σ (take i ps) → i ≤ length ps → i < limit → Taken limit σ τ v r → IsOk r
+placed_takes σ τ ps i limit v (Ok l) p h room t = search rules
+placed_takes σ τ ps i limit v (Err e) p h room t = absurd (placed_room σ ps i limit p h room t.0)
+
+pub taken_at : (limit : ℕ) (σ τ : Memory) (v : Value) (r : Result ℕ Full) (l : ℕ) → r ≡ Ok l → Taken limit σ τ v r → Taken limit σ τ v (Ok l)
+taken_at limit σ τ v r l e t = subst (Taken limit σ τ v) e t
 
 -- shifts are remembered: the first i points are done, and the others as they were
 abbrev pub Remembered : Memory → List Point → List Point → ℕ → Type 0
@@ -63,10 +84,8 @@ module _ (σ : Memory) (ps qs : List Point) (i : ℕ) (e : Remembered σ ps qs i
   same_point : get_or qs i blank ≡ get_or ps i blank
   same_point = ap (λ (rs : List Point). get_or rs i blank) e ∙ front_at (map (remembering σ) ps) ps i blank (length-map ps _) h
 
-  pub remember_whole : (n : ℕ) → n ≤ length ps → i < n → AllHoldShifts σ (take n ps) → HoldsShift σ (get_or qs i blank).location
-  remember_whole n w l whole =
-      subst (λ (x : Point). HoldsShift σ x.location) (get_or-take n ps i blank l ∙ sym same_point)
-      (shift_there σ (take n ps) i whole (let t = length-take-le n ps w in omega arith))
+  pub remember_whole : AllHoldShifts σ ps → HoldsShift σ (get_or qs i blank).location
+  remember_whole whole = subst (λ (x : Point). HoldsShift σ x.location) (sym same_point) (shift_there σ ps i whole h)
 
   pub remember_more : (z : ℤ) → z ≡ shift_in (σ (get_or qs i blank).location)
       → Remembered σ ps (set qs i (record { location = (get_or qs i blank).location; remembered = z; graded = false })) (i + 1)
@@ -75,13 +94,6 @@ module _ (σ : Memory) (ps qs : List Point) (i : ℕ) (e : Remembered σ ps qs i
       ∙ ap (λ (x : Point). set qs i (remembering σ x)) same_point
       ∙ ap₂ (λ (rs : List Point) (y : Point). set rs i y) e (sym (get_or-map (remembering σ) ps i blank blank h))
       ∙ front_more (map (remembering σ) ps) ps i blank (length-map ps _) h
-
-pub remember_all : (σ : Memory) (ps qs : List Point) (i n : ℕ) → Remembered σ ps qs i → i ≡ n → n ≤ length ps → take n qs ≡ map (remembering σ) (take n ps)
-remember_all σ ps qs i n e is w =
-    ap₂ (λ (m : ℕ) (rs : List Point). take m rs) (sym is) e
-    ∙ take_at (take i (map (remembering σ) ps)) (drop i ps) i (length-take-le i (map (remembering σ) ps) (let l = length-map ps (remembering σ) in omega arith))
-    ∙ take-map (remembering σ) i ps
-    ∙ ap (λ (m : ℕ). map (remembering σ) (take m ps)) is
 
 -- remembered shifts are put back
 abbrev pub Half : Memory → Memory → List Point → ℕ → Type 0
@@ -103,17 +115,18 @@ module _ (σ₀ σ : Memory) (ps : List Point) (i : ℕ) (f : Free (locations ps
   there : get_or (locations ps) i 0 ≡ (get_or ps i blank).location
   there = get_or-map (λ (x : Point). x.location) ps i blank 0 h
 
-  pub back_writes : (z : ℤ) → write_answer (σ (get_or ps i blank).location) (whole_value z) ≡ Ok tt
-  back_writes z =
-      ap (λ (o : Option Value). write_answer o (whole_value z))
+  pub back_writes : (z : ℤ) (r : Result (Unit {0}) WriteRefusal) → r ≡ write_answer (σ (get_or ps i blank).location) (whole_value z) → IsOk r
+  back_writes z r q =
+      writes r (σ (get_or ps i blank).location) (get_or (front i (remembered ps) (shifts σ₀ ps)) i (pos 0)) z q
       (ap σ (sym there) ∙ ap (λ (τ : Memory). τ (get_or (locations ps) i 0)) e ∙ held_at (locations ps) (front i (remembered ps) (shifts σ₀ ps)) i f whole in_list)
 
-  pub back_more : (σ' : Memory) (z : ℤ) → z ≡ (get_or ps i blank).remembered → σ' ≡ put σ (get_or ps i blank).location (Some (whole_value z)) → Half σ₀ σ' ps (i + 1)
-  back_more σ' z ez after =
+  pub back_more : (σ' : Memory) → σ' ≡ put σ (get_or ps i blank).location (Some (whole_value (get_or ps i blank).remembered)) → Half σ₀ σ' ps (i + 1)
+  back_more σ' after =
+      let z = (get_or ps i blank).remembered in
       after
       ∙ ap₂ (λ (τ : Memory) (l : ℕ). put τ l (Some (whole_value z))) e (sym there)
       ∙ holding_set (locations ps) (front i (remembered ps) (shifts σ₀ ps)) i z f whole in_list
-      ∙ ap (λ (v : ℤ). holding (locations ps) (set (front i (remembered ps) (shifts σ₀ ps)) i v)) (ez ∙ sym (get_or-map (λ (x : Point). x.remembered) ps i blank (pos 0) h))
+      ∙ ap (λ (v : ℤ). holding (locations ps) (set (front i (remembered ps) (shifts σ₀ ps)) i v)) (sym (get_or-map (λ (x : Point). x.remembered) ps i blank (pos 0) h))
       ∙ ap (holding (locations ps)) (front_more (remembered ps) (shifts σ₀ ps) i (pos 0) as_long past)
 
 pub back_all : (σ₀ σ : Memory) (ps : List Point) (i : ℕ) → Half σ₀ σ ps i → length ps ≤ i → σ ≡ holding (locations ps) (remembered ps)
@@ -121,32 +134,29 @@ back_all σ₀ σ ps i e h =
     e ∙ ap (holding (locations ps)) (front_all (remembered ps) (shifts σ₀ ps) i (length-map ps _ ∙ sym (length-map ps _)) (subst (λ n. n ≤ i) (sym (length-map ps _)) h))
 
 -- the lowest point that is not graded
-pub none_false : (gs : List Bool) → ((k : ℕ) → k < length gs → get_or gs k false ≡ true) → lowest_false gs ≡ None
-none_false [] h = refl
-none_false (x ∷ gs) h =
-    ap (λ b. cond b (after_true (lowest_false gs)) (Some 0)) (h 0 (omega arith)) ∙ ap after_true (none_false gs (λ k b. h (suc k) (omega arith)))
+further : ℕ → Option ℕ → Option ℕ
+further i None = None
+further i (Some k) = Some (i + k)
 
-pub false_at : (gs : List Bool) (i : ℕ) → i < length gs → ((k : ℕ) → k < i → get_or gs k false ≡ true) → get_or gs i false ≡ false → lowest_false gs ≡ Some i
-false_at [] i h b e = absurd (omega arith)
-false_at (x ∷ gs) zero h b e = ap (λ y. cond y (after_true (lowest_false gs)) (Some 0)) e
-false_at (x ∷ gs) (suc i) h b e =
-    ap (λ y. cond y (after_true (lowest_false gs)) (Some 0)) (b 0 (omega arith)) ∙ ap after_true (false_at gs i (omega arith) (λ k l. b (suc k) (omega arith)) e)
+further_after : (i : ℕ) (o : Option ℕ) → further (i + 1) o ≡ further i (after_true o)
+unfolding further
+further_after i None = refl
+further_after i (Some k) = let e : i + 1 + k ≡ i + suc k = omega arith in ap Some e
 
-module _ (ps : List Point) where
-  mark_at : (i : ℕ) → i < length ps → get_or (marks ps) i false ≡ (get_or ps i blank).graded
-  mark_at i h = get_or-map (λ (x : Point). x.graded) ps i blank false h
+further_zero : (o : Option ℕ) → further 0 o ≡ o
+unfolding further
+further_zero None = refl
+further_zero (Some k) = let e : 0 + k ≡ k = omega arith in ap Some e
 
-  marks_long : length (marks ps) ≡ length ps
-  marks_long = length-map ps _
+position_lowest : (ps : List Point) (i : ℕ) → position_from (λ (x : Point). not x.graded) i ps ≡ further i (lowest_false (marks ps))
+unfolding further
+position_lowest [] i = refl
+position_lowest (x ∷ ps) i = go x.graded (position_lowest ps (i + 1))
+  where
+    go : (b : Bool) → position_from (λ (y : Point). not y.graded) (i + 1) ps ≡ further (i + 1) (lowest_false (marks ps))
+        → cond (not b) (Some i) (position_from (λ (y : Point). not y.graded) (i + 1) ps) ≡ further i (cond b (after_true (lowest_false (marks ps))) (Some 0))
+    go true ih = ih ∙ further_after i (lowest_false (marks ps))
+    go false ih = let e : i ≡ i + 0 = omega arith in ap Some e
 
-  pub marked_more : (i : ℕ) → i < length ps → ((k : ℕ) → k < i → get_or (marks ps) k false ≡ true) → (get_or ps i blank).graded ≡ true
-      → (k : ℕ) → k < i + 1 → get_or (marks ps) k false ≡ true
-  marked_more i h before here = below_more (λ k. get_or (marks ps) k false ≡ true) i before (mark_at i h ∙ here)
-
-  pub ungraded_at : (i : ℕ) → i < length ps → ((k : ℕ) → k < i → get_or (marks ps) k false ≡ true) → (get_or ps i blank).graded ≡ false
-      → Some i ≡ lowest_false (marks ps)
-  ungraded_at i h before here =
-      sym (false_at (marks ps) i (subst (λ n. i < n) (sym marks_long) h) before (mark_at i h ∙ here))
-
-  pub all_graded : (i : ℕ) → length ps ≤ i → ((k : ℕ) → k < i → get_or (marks ps) k false ≡ true) → None ≡ lowest_false (marks ps)
-  all_graded i h before = sym (none_false (marks ps) (λ k l. before k (let e = marks_long in omega arith)))
+pub position_ungraded : (ps : List Point) → position (λ (x : Point). not x.graded) ps ≡ lowest_false (marks ps)
+position_ungraded ps = position_from-zero (λ (x : Point). not x.graded) ps ∙ position_lowest ps 0 ∙ further_zero (lowest_false (marks ps))

@@ -1,6 +1,6 @@
 -- Lists of calls. Assumes nothing.
-use Rattle.std.proofs.Common.{◌≡◌, ℕ, ◌+◌, ◌<◌, List, [], ◌∷◌, ◌++◌, length, get_or, take, drop, set, pos, Ok, Err, Result, sym, refl, ap, ◌∙◌, subst, arith, Bor, MatchResult}
-use Rattle.std.proofs.lemmas.List.{take_more, take_more_set, drop-set-lt, drop-drop}
+use Rattle.std.proofs.Common.{◌≡◌, ℕ, ◌+◌, ◌<◌, List, [], ◌∷◌, ◌++◌, length, get_or, take, set, pos, Ok, Err, Result, sym, refl, ap, ◌∙◌, subst, arith, Bor, MatchResult}
+use Rattle.std.proofs.lemmas.List.{take_more, take_more_set, take_at, take_all}
 use Rattle.language.specs.declared.tables.Node.{Node}
 use Rattle.language.specs.declared.faults.Fault.{Fault}
 use Rattle.language.specs.Tree.{Com, null}
@@ -9,19 +9,17 @@ use Rattle.language.specs.Check.{right_size, long_enough, check}
 use Rattle.language.proofs.Binds.{asked_ok}
 use Rattle.rule.specs.Accepted.{verdict}
 use Rattle.store.specs.declared.Store.{Ghosts}
-use Rattle.history.specs.declared.answers.Answer.{Answer}
 use Rattle.history.specs.States as calls
-use Rattle.history.specs.States.{Accepted, fresh, Does}
+use Rattle.history.specs.States.{Accepted, State, Reply, fresh, Does}
 use Rattle.history.specs.Histories.{History, Start, Reached}
 use Rattle.history.proofs.Whole.{always}
 use Rattle.piece.specs.declared.pieces.Piece.{Piece}
 use Rattle.piece.specs.declared.lists.Call.{Call}
 use Rattle.piece.specs.declared.lists.Call.TheVariants.{Lay, Open, Grade, Keep, Undo, Show}
-use Rattle.piece.specs.Views.{view, Sound}
-use Rattle.piece.specs.Replay.{table_at, chosen, Lists, checked, Meant, Told, Replayed, start}
-
-never : {A : Type 0} → ◌≡◌ {A = ℕ} 0 1 → A
-never h = absurd (omega arith)
+use Rattle.piece.specs.Piece.{view}
+use Rattle.piece.specs.declared.lists.ReplayLists.{ReplayLists}
+use Rattle.piece.specs.Replay.{table_at, chosen, Lists, checked, check_lengths, run_lengths, SameLengths, Meant, Told, Replayed, start}
+use Rattle.history.proofs.Plain.{never}
 
 -- the table in the place after a check
 pub chosen_is : {P : Unit {0} → Type 0} {Q : Fault → Type 0} (o : Result (Com × ℕ) Fault) (v : Result (Unit {0}) Fault) (nodes found : List Node)
@@ -31,8 +29,9 @@ chosen_is (Ok c) (Err f) nodes found e h good bad = never (cc)
 chosen_is (Err f) (Ok u) nodes found e h good bad = never (cc)
 chosen_is (Err f) (Err f') nodes found e h good bad = bad f' h
 
-pub triple : {a b c a' b' c' : ℕ} → a ≡ a' → b ≡ b' → c ≡ c' → ◌≡◌ {A = Lists} (a, b, c) (a', b', c')
-triple {a} {b} {c} {a'} {b'} {c'} p q r = ap {B = Lists} (λ x. (x, b, c)) p ∙ ap {B = Lists} (λ x. (a', x, c)) q ∙ ap {B = Lists} (λ x. (a', b', x)) r
+-- a grade knows its lists by their lengths alone
+pub grades_alike : {s s' : State} {m k a n n' b v : ℕ} {r : Accepted} {x : Reply} → n ≡ n' → Does s (calls.grade m k r a (n, b, v)) x s' → Does s (calls.grade m k r a (n', b, v)) x s'
+grades_alike {s} {s'} {m} {k} {a} {n} {n'} {b} {v} {r} {x} e d = subst (λ (l : ℕ). Does s (calls.grade m k r a (l, b, v)) x s') e d
 
 -- some rule is chosen
 accepted_by : (nodes : List Node) (l : Lists) → (r : Accepted) × (r.table ≡ checked nodes l)
@@ -54,39 +53,43 @@ meant ts l w (Keep m) = (calls.keep m, refl)
 meant ts l w (Undo m) = (calls.undo m, refl)
 meant ts l w (Show k) = (calls.show k, refl)
 
--- the first i calls are performed on q
-pub record Playing {S : Type 0} (g : Ghosts S) (p : Start) (ts : List (Bor (List Node))) (l w : Lists) (cs : List Call) (xs ys : List Answer) (i : ℕ) (q : Piece S) : Type 0 where
-  pub sound : Sound g q
+-- the first i calls are performed on q, with lists as long as the first
+pub record Playing {S : Type 0} (g : Ghosts S) (p : Start) (ts : List (Bor (List Node))) (first lists : ReplayLists) (cs : List Call) (xs : List Reply) (i : ℕ) (q : Piece S g) : Type 0 where
   pub history : History
-  pub told : Told ts l w (take i cs) (take i xs) history
+  pub told : Told ts (check_lengths first) (run_lengths first) (take i cs) (take i xs) history
   pub reached : Reached p history (view g q)
-  pub rest : drop i xs ≡ drop i ys
+  pub same : SameLengths first lists
 
 module _ {S : Type 0} (g : Ghosts S) where
-  pub none_played : (s : S) (n : ℕ) (ts : List (Bor (List Node))) (l w : Lists) (cs : List Call) (xs : List Answer) (q : Piece S)
-      → Sound g q → view g q ≡ fresh n (g.bound s) (g.at s) → q.store ≡ s → Playing g (start g q.store n) ts l w cs xs xs 0 q
-  none_played s n ts l w cs xs q sound v e =
-      record { sound = sound; history = []; told = (refl, refl); reached = v ∙ ap (λ (x : S). fresh n (g.bound x) (g.at x)) (sym e); rest = refl }
+  pub none_played : (s : S) (n : ℕ) (ts : List (Bor (List Node))) (lists : ReplayLists) (cs : List Call) (xs : List Reply) (q : Piece S g)
+      → view g q ≡ fresh n (g.bound s) (g.at s) → q.store ≡ s → Playing g (start g q.store n) ts lists lists cs xs 0 q
+  none_played s n ts lists cs xs q v e = record {
+    history = [];
+    told = (refl, refl);
+    reached = v ∙ ap (λ (x : S). fresh n (g.bound x) (g.at x)) (sym e);
+    same = (refl, refl);
+  }
 
-  pub one_played : (p : Start) (ts : List (Bor (List Node))) (l w l' w' : Lists) (cs : List Call) (xs ys : List Answer) (i : ℕ) (q q' : Piece S) (x : Answer) (c d : Call)
-      → Playing g p ts l w cs xs ys i q → l' ≡ l → w' ≡ w → i < length cs → i < length xs → get_or cs i d ≡ c → Sound g q'
-      → ((a : calls.Call) → Meant ts l' w' c a → Does (view g q) a x (view g q')) → Playing g p ts l w cs (set xs i x) ys (i + 1) q'
-  one_played p ts l w l' w' cs xs ys i q q' x c d P el ew hc hx ec sound does =
-      let (a, m) = meant ts l w c in
-      let m' : Meant ts l' w' c a = subst (λ (v : Lists). Meant ts l' v c a) (sym ew) (subst (λ (v : Lists). Meant ts v w c a) (sym el) m) in
+  pub one_played : (p : Start) (ts : List (Bor (List Node))) (first lists lists' : ReplayLists) (cs : List Call) (xs : List Reply) (i : ℕ) (q q' : Piece S g) (x : Reply) (c d : Call)
+      → Playing g p ts first lists cs xs i q → SameLengths lists lists' → i < length cs → i < length xs → get_or cs i d ≡ c
+      → ((a : calls.Call) → Meant ts (check_lengths lists) (run_lengths lists) c a → Does (view g q) a x (view g q')) → Playing g p ts first lists' cs (set xs i x) (i + 1) q'
+  one_played p ts first lists lists' cs xs i q q' x c d P s hc hx ec does =
+      let (a, m) = meant ts (check_lengths first) (run_lengths first) c in
+      let m' : Meant ts (check_lengths lists) (run_lengths lists) c a =
+      subst (λ (v : Lists). Meant ts (check_lengths lists) v c a) (sym P.same.1) (subst (λ (v : Lists). Meant ts v (run_lengths first) c a) (sym P.same.0) m) in
       record {
-        sound = sound;
         history = (a, x) ∷ P.history;
         told = (c, take i cs, take i xs, take_more cs i d hc ∙ ap (λ (v : Call). take i cs ++ v ∷ []) ec, take_more_set xs i x hx, m, P.told);
         reached = (view g q, P.reached, does a m');
-        rest = drop-set-lt (i + 1) xs i x (omega arith) ∙ sym (drop-drop 1 i xs) ∙ ap (drop 1) P.rest ∙ drop-drop 1 i ys;
+        same = (s.0 ∙ P.same.0, s.1 ∙ P.same.1);
       }
 
-  pub all_played : (s s' : S) (k : ℕ) (ts : List (Bor (List Node))) (l w : Lists) (cs : List Call) (xs ys : List Answer) (i n : ℕ) (q : Piece S)
-      → Playing g (start g s k) ts l w cs xs ys i q → s ≡ s' → i ≡ n → Replayed (start g s' k) ts l w (take n cs) (take n xs) × (drop n xs ≡ drop n ys)
-  all_played s s' k ts l w cs xs ys i n q P es e =
-      subst (λ (m : ℕ). Replayed (start g s' k) ts l w (take m cs) (take m xs) × (drop m xs ≡ drop m ys)) e (
-        subst (λ (x : S). Replayed (start g x k) ts l w (take i cs) (take i xs)) es
-            (record { history = P.history; told = P.told; after = view g q; reached = P.reached; here = always (start g s k) P.history (view g q) P.reached }),
-        P.rest,
-      )
+  pub all_played : (s s' : S) (k : ℕ) (ts : List (Bor (List Node))) (first lists : ReplayLists) (cs : List Call) (xs rest : List Reply) (i n : ℕ) (q : Piece S g)
+      → Playing g (start g s k) ts first lists cs xs i q → s ≡ s' → i ≡ n → length xs ≡ n
+      → Replayed (start g s' k) ts (check_lengths first) (run_lengths first) (take n cs) (take n (xs ++ rest))
+  all_played s s' k ts first lists cs xs rest i n q P es e ex =
+      let same : take i xs ≡ take n (xs ++ rest) = take_all i xs (omega arith) ∙ sym (take_at xs rest n ex) in
+      subst (λ (m : ℕ). Replayed (start g s' k) ts (check_lengths first) (run_lengths first) (take m cs) (take n (xs ++ rest))) e
+      (subst (λ (ys : List Reply). Replayed (start g s' k) ts (check_lengths first) (run_lengths first) (take i cs) ys) same
+      (subst (λ (x : S). Replayed (start g x k) ts (check_lengths first) (run_lengths first) (take i cs) (take i xs)) es
+      (record { history = P.history; told = P.told; after = view g q; reached = P.reached; here = always (start g s k) P.history (view g q) P.reached })))

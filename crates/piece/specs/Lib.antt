@@ -1,3 +1,4 @@
 pub mod Views
+pub mod Piece
 pub mod Runs
 pub mod Replay

@@ -1,10 +1,11 @@
 -- What a grade learns of its run.
-use Rattle.std.specs.Prelude.{◌≡◌, ℕ, ℤ, pos, Some, Ok, Err, Option, Result}
+use Rattle.std.specs.Prelude.{◌≡◌, ℕ, length, ℤ, pos, Some, Ok, Err, Option, Result}
 use Rattle.language.specs.declared.values.Graded.{Graded}
 use Rattle.language.specs.declared.faults.Fault.{Fault}
 use Rattle.language.specs.declared.faults.Layer.{Layer}
 use Rattle.language.specs.declared.faults.Layer.TheVariants.{Table, Names, Run, Piece}
 use Rattle.language.specs.Runs.{Out, runs}
+use Rattle.run.specs.declared.runs.RunLists.{RunLists}
 use Rattle.history.specs.Histories.{RunAnswer, run_refusal}
 use Rattle.history.specs.Promise.{Tells}
 use Rattle.history.specs.States.{Accepted, Mode, bare, laid, opened, State, store_of, at_point}
@@ -24,6 +25,10 @@ below k (Err f) = Err (from_below k f f.layer)
 abbrev pub run_in : Result Graded Fault → Option RunAnswer
 run_in (Ok g) = Some (Ok g)
 run_in (Err f) = run_refusal f.layer f.place
+
+-- the lengths of a run's lists
+abbrev pub lengths : RunLists → ℕ × ℕ × ℕ
+lengths lists = (length lists.lens.now, length lists.names.now, length lists.levels.now)
 
 -- the step of the open resize
 abbrev pub new_step : Mode → ℤ

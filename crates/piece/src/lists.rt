@@ -1,14 +1,15 @@
 // Whole lists of calls, performed on a piece that is set down for them.
 ghost use Rattle.std.specs.Prelude.{◌≡◌, min, length, take, drop};
 ghost use Rattle.history.specs.States.{Accepted, Call as Asked, grade as grades, Does};
-ghost use Rattle.piece.specs.Replay.{Meant, table_at, checked, Replayed, start};
-ghost use Rattle.piece.specs.Views.{Sound, view, said};
+ghost use Rattle.piece.specs.Replay.{Meant, table_at, checked, check_lengths, run_lengths, SameLengths, Replayed, start};
+ghost use Rattle.piece.specs.Views.{said};
+ghost use Rattle.piece.specs.Piece.{view};
 
 use crate::pieces::{Piece, Returned, Ticket};
 use history::Answer;
 use language::{Fault, Graded, Node, Number, Scalar};
-use rule::{Entry, Rule, check};
-use run::{Binding, Level};
+use rule::{CheckLists, Entry, Rule, check};
+use run::{Binding, Level, RunLists};
 use scope::Record;
 use store::Store;
 
@@ -32,15 +33,21 @@ pub enum Call {
     Show(u16),
 }
 
+// The lists that a replay works in: those of check, and those of the runs. Both share the lengths of stretches.
+#[derive(Drop)]
+pub struct ReplayLists<'l, 'n, 't, 'b, 'v> {
+    pub lens: &'l mut [usize],
+    pub names: &'n mut [Record<Entry>],
+    pub types: &'t mut [Scalar],
+    pub bindings: &'b mut [Record<Binding>],
+    pub levels: &'v mut [Level],
+}
+
 // The table at a place of the list; past its end the empty table, which no check accepts.
 fn table_at<'a>(tables: &[&'a [Node]], place: usize) -> &'a [Node]
     ensures { result.now ≡ table_at tables.now place }
 {
-    if place < tables.len() {
-        tables[place]
-    } else {
-        &[]
-    }
+    tables.get(place).copied().unwrap_or(&[])
 }
 
 impl<S: Store> Piece<S> {
@@ -49,30 +56,31 @@ impl<S: Store> Piece<S> {
         &mut self,
         grading: Grading,
         nodes: &[Node],
-        lens: &mut [usize],
-        names: &mut [Record<Entry>],
-        types: &mut [Scalar],
-        bindings: &mut [Record<Binding>],
-        levels: &mut [Level],
+        lists: &mut ReplayLists<'_, '_, '_, '_, '_>,
     ) -> Result<Graded, Fault>
-        requires { Sound S.Store self.old }
-        ensures sound { Sound S.Store self.new }
-        ensures does { (a : Accepted) → a.table ≡ checked nodes.now (length lens.old, length names.old, length types.old) → Does (view S.Store self.old) (grades grading.ticket grading.point a grading.allowance (length lens.old, length bindings.old, length levels.old)) (said Answer.Graded result) (view S.Store self.new) }
+        ensures lists_kept { SameLengths lists.old lists.new }
+        ensures does { (a : Accepted) → a.table ≡ checked nodes.now (check_lengths lists.old) → Does (view S.Store self.old) (grades grading.ticket grading.point a grading.allowance (run_lengths lists.old)) (said Answer.Graded result) (view S.Store self.new) }
     {
         let mut rule = Rule::built_in();
-        let _ = check(&mut rule, nodes, lens, names, types);
-        let ticket = Ticket {
-            number: grading.ticket,
+        let checked = CheckLists {
+            lens: &mut *lists.lens,
+            names: &mut *lists.names,
+            types: &mut *lists.types,
         };
-        let answer = self.grade(
-            &ticket,
-            grading.point,
-            &rule,
-            grading.allowance,
-            lens,
-            bindings,
-            levels,
-        );
+        let _ = check(&mut rule, nodes, checked);
+        let Grading {
+            ticket,
+            point,
+            table: _,
+            allowance,
+        } = grading;
+        let ticket = Ticket { number: ticket };
+        let lists = RunLists {
+            lens: &mut *lists.lens,
+            names: &mut *lists.bindings,
+            levels: &mut *lists.levels,
+        };
+        let answer = self.grade(&ticket, point, &rule, allowance, lists);
         let Ticket { number: _ } = ticket;
         answer
     }
@@ -82,85 +90,72 @@ impl<S: Store> Piece<S> {
         &mut self,
         call: Call,
         tables: &[&[Node]],
-        lens: &mut [usize],
-        names: &mut [Record<Entry>],
-        types: &mut [Scalar],
-        bindings: &mut [Record<Binding>],
-        levels: &mut [Level],
-    ) -> Answer
-        requires { Sound S.Store self.old }
-        ensures sound { Sound S.Store self.new }
-        ensures does { (c : Asked) → Meant tables.now (length lens.old, length names.old, length types.old) (length lens.old, length bindings.old, length levels.old) call c → Does (view S.Store self.old) c result (view S.Store self.new) }
+        lists: &mut ReplayLists<'_, '_, '_, '_, '_>,
+    ) -> Result<Answer, Fault>
+        ensures lists_kept { SameLengths lists.old lists.new }
+        ensures does { (c : Asked) → Meant tables.now (check_lengths lists.old) (run_lengths lists.old) call c → Does (view S.Store self.old) c result (view S.Store self.new) }
     {
-        match call {
-            Call::Lay(points) => match self.lay(points) {
-                Ok(()) => Answer::Laid,
-                Err(fault) => Answer::Refused(fault),
-            },
-            Call::Open(step) => match self.open(step) {
-                Ok(Ticket { number }) => Answer::Ticket(number),
-                Err(fault) => Answer::Refused(fault),
-            },
+        let answer = match call {
+            Call::Lay(points) => {
+                self.lay(points)?;
+                Answer::Laid
+            }
+            Call::Open(step) => {
+                let Ticket { number } = self.open(step)?;
+                Answer::Ticket(number)
+            }
             Call::Grade(grading) => {
                 let nodes = table_at(tables, grading.table);
-                match self.grade_by_table(grading, nodes, lens, names, types, bindings, levels) {
-                    Ok(graded) => Answer::Graded(graded),
-                    Err(fault) => Answer::Refused(fault),
-                }
+                Answer::Graded(self.grade_by_table(grading, nodes, lists)?)
             }
-            Call::Keep(number) => match self.keep(Ticket { number }) {
-                Ok(step) => Answer::Kept(step),
-                Err(
-                    Returned {
-                        fault,
-                        ticket: Ticket { number: _ },
-                    },
-                ) => Answer::Refused(fault),
-            },
-            Call::Undo(number) => match self.undo(Ticket { number }) {
-                Ok(step) => Answer::Undone(step),
-                Err(
-                    Returned {
-                        fault,
-                        ticket: Ticket { number: _ },
-                    },
-                ) => Answer::Refused(fault),
-            },
-            Call::Show(point) => match self.show(point) {
-                Ok(shown) => Answer::Shown(shown),
-                Err(fault) => Answer::Refused(fault),
-            },
-        }
+            Call::Keep(number) => {
+                let kept = self.keep(Ticket { number });
+                Answer::Kept(kept.map_err(Returned::into_fault)?)
+            }
+            Call::Undo(number) => {
+                let undone = self.undo(Ticket { number });
+                Answer::Undone(undone.map_err(Returned::into_fault)?)
+            }
+            Call::Show(point) => Answer::Shown(self.show(point)?),
+        };
+        Ok(answer)
     }
 }
 
-fn smaller(a: usize, b: usize) -> usize
-    ensures { result ≡ min a b }
-{
-    if a < b { a } else { b }
-}
-
-// Sets a piece down on the store, and performs as many of the calls as there is room for answers; gives how many that is.
+// Sets a piece down on the store, and performs as many of the calls as there is room for answers, which is lent since
+// nothing here allocates; gives how many that is.
 pub fn replay<S: Store + Drop>(
     store: S,
     number: u32,
     tables: &[&[Node]],
     calls: &[Call],
-    answers: &mut [Answer],
-    lens: &mut [usize],
-    names: &mut [Record<Entry>],
-    types: &mut [Scalar],
-    bindings: &mut [Record<Binding>],
-    levels: &mut [Level],
+    answers: &mut [Result<Answer, Fault>],
+    lists: ReplayLists<'_, '_, '_, '_, '_>,
 ) -> usize
     ensures count { result ≡ min (length calls.now) (length answers.old) }
     ensures rest_kept { drop result answers.new ≡ drop result answers.old }
-    ensures replayed { Replayed (start S.Store store number) tables.now (length lens.old, length names.old, length types.old) (length lens.old, length bindings.old, length levels.old) (take result calls.now) (take result answers.new) }
+    ensures replayed { Replayed (start S.Store store number) tables.now (check_lengths lists.entry) (run_lengths lists.entry) (take result calls.now) (take result answers.new) }
 {
-    let count = smaller(calls.len(), answers.len());
+    // a struct of `&mut` slices that comes as a parameter is not proved where it is lent on whole, so it is made again
+    let ReplayLists {
+        lens,
+        names,
+        types,
+        bindings,
+        levels,
+    } = lists;
+    let mut lists = ReplayLists {
+        lens,
+        names,
+        types,
+        bindings,
+        levels,
+    };
+    let count = calls.len().min(answers.len());
     let mut piece = Piece::new(store, number);
-    for i in 0..count {
-        answers[i] = piece.perform(calls[i], tables, lens, names, types, bindings, levels);
+    // by place: after a zip over the answers the proof does not know what they hold
+    for (i, answer) in answers[..count].iter_mut().enumerate() {
+        *answer = piece.perform(calls[i], tables, &mut lists);
     }
     count
 }

@@ -1,17 +1,14 @@
 // A piece, and what it is asked.
-ghost use Rattle.std.specs.Prelude.{◌≡◌, ◌<◌, length};
-ghost use Rattle.language.specs.declared.faults.Layer.TheVariants as layers;
-ghost use Rattle.language.specs.Faults.{fault};
-ghost use Rattle.history.specs.States.{Accepted, Does, fresh, grade as grades, lay as lays, open_to as opens, keep as keeps, undo as undoes, show as shows};
-ghost use Rattle.piece.specs.Runs.{below, RanOn};
-ghost use Rattle.piece.specs.Views.{Sound, view, said, said_back, Back, ticket_answer, with_shift};
+ghost use Rattle.std.specs.Prelude.{◌≡◌, ◌<◌, take};
+ghost use Rattle.history.specs.States.{Free, store_of};
+ghost use Rattle.piece.specs.Runs.{below};
+ghost use Rattle.piece.specs.Views.{Counted, Counted_prop, Free_prop, locations, mode_of};
 
 use crate::points::{Point, first_ungraded, put_back, remember, shift_at, take_locations};
 use history::{Answer, Shown};
 use language::{Fault, Graded, Layer, Number, PieceCause, Value};
 use rule::Rule;
-use run::{Binding, Level, run};
-use scope::Record;
+use run::{RunLists, run};
 use store::Store;
 
 const MOST_POINTS: u16 = 256;
@@ -27,6 +24,19 @@ pub struct Returned {
     pub ticket: Ticket,
 }
 
+impl Returned {
+    // The refusal alone, where the ticket is none that a caller holds.
+    pub(crate) fn into_fault(self) -> Fault
+        ensures { result ≡ self.fault }
+    {
+        let Returned {
+            fault,
+            ticket: Ticket { number: _ },
+        } = self;
+        fault
+    }
+}
+
 #[derive(Clone, Copy)]
 enum Phase {
     Bare,
@@ -35,40 +45,39 @@ enum Phase {
     Open(Number),
 }
 
+// The laid points have locations of their own, and exactly those are live, each holding a shift.
 #[derive(Drop)]
 pub struct Piece<S: Store> {
     store: S,
     number: u32,
     step: Number,
     phase: Phase,
-    // how many of the records are laid
+    // how many of the records are laid: the table is a plain inner one, of a fixed length, so the count stands beside it
     laid: u16,
     points: [Point; 256],
-}
-
-fn refusal(cause: PieceCause, place: usize) -> Fault
-    ensures { result ≡ fault (layers.Piece cause) place }
-{
-    Fault::new(Layer::Piece(cause), place)
+    ghost counted: { Counted phase laid } by { Counted_prop phase laid },
+    ghost apart: { Free (locations (take laid points)) } by { Free_prop (locations (take laid points)) },
+    ghost held: { S.Store.at store ≡ store_of (mode_of phase (S.Store.at store) (take laid points)) },
 }
 
 // A run's answer, with the point added to what comes from below the piece.
 fn from_below(point: u16, answer: Result<Graded, Fault>) -> Result<Graded, Fault>
     ensures { result ≡ below point answer }
 {
-    match answer {
-        Err(fault) => match fault.layer {
-            Layer::Piece(_) => Err(fault),
-            _ => Err(fault.at_point(point)),
-        },
-        Ok(graded) => Ok(graded),
-    }
+    answer.map_err(|fault| match fault.layer {
+        Layer::Piece(_) => fault,
+        _ => fault.at_point(point),
+    })
 }
 
 impl<S: Store> Piece<S> {
+    ghost use Rattle.history.specs.States.{Accepted, Does, fresh, grade as grades, lay as lays, open_to as opens, keep as keeps, undo as undoes, show as shows};
+    ghost use Rattle.piece.specs.Runs.{lengths, RanOn};
+    ghost use Rattle.piece.specs.Views.{said, said_back, Back, ticket_answer, with_shift};
+    ghost use Rattle.piece.specs.Piece.{view};
+
     // A bare piece, at step 0.
     pub fn new(store: S, number: u32) -> Piece<S>
-        ensures sound { Sound S.Store result }
         ensures bare { view S.Store result ≡ fresh number (S.Store.bound store) (S.Store.at store) }
         ensures store { result.store ≡ store }
     {
@@ -89,11 +98,10 @@ impl<S: Store> Piece<S> {
 
     // A point's shift, and the piece's step.
     pub fn show(&self, point: u16) -> Result<Shown, Fault>
-        requires { Sound S.Store self.now }
         ensures { Does (view S.Store self.now) (shows point) (said Answer.Shown result) (view S.Store self.now) }
     {
         if point >= self.laid {
-            return Err(refusal(PieceCause::Point, point as usize));
+            return Err(Fault::new(PieceCause::Point.into(), point as usize));
         }
         let shift = shift_at(&self.store, self.points[point as usize].location);
         Ok(Shown {
@@ -104,19 +112,16 @@ impl<S: Store> Piece<S> {
 
     // Lays the points, each at a location of its own that holds 0.
     pub fn lay(&mut self, points: u16) -> Result<(), Fault>
-        requires { Sound S.Store self.old }
-        ensures sound { Sound S.Store self.new }
-        ensures does { Does (view S.Store self.old) (lays points) (said (λ _. Answer.Laid) result) (view S.Store self.new) }
+        ensures { Does (view S.Store self.old) (lays points) (said (λ _. Answer.Laid) result) (view S.Store self.new) }
     {
-        match self.phase {
-            Phase::Bare => {}
-            _ => return Err(refusal(PieceCause::NotBare, 0)),
+        let Phase::Bare = self.phase else {
+            return Err(Fault::new(PieceCause::NotBare.into(), 0));
+        };
+        if !(1..=MOST_POINTS).contains(&points) {
+            return Err(Fault::new(PieceCause::Points.into(), 0));
         }
-        if points < 1 || points > MOST_POINTS {
-            return Err(refusal(PieceCause::Points, 0));
-        }
-        if self.store.count() != 0 || self.store.limit() < points as u32 {
-            return Err(refusal(PieceCause::Store, 0));
+        if self.store.count() != 0 || self.store.limit() < u32::from(points) {
+            return Err(Fault::new(PieceCause::Store.into(), 0));
         }
         take_locations(&mut self.store, &mut self.points, points as usize);
         self.laid = points;
@@ -126,14 +131,11 @@ impl<S: Store> Piece<S> {
 
     // Begins a resize to a new step: remembers each shift, and gives the ticket that ends it.
     pub fn open(&mut self, step: Number) -> Result<Ticket, Fault>
-        requires { Sound S.Store self.old }
-        ensures sound { Sound S.Store self.new }
-        ensures does { Does (view S.Store self.old) (opens step) (said (λ t. Answer.Ticket t.number) result) (view S.Store self.new) }
+        ensures { Does (view S.Store self.old) (opens step) (said (λ t. Answer.Ticket t.number) result) (view S.Store self.new) }
     {
-        match self.phase {
-            Phase::Laid => {}
-            _ => return Err(refusal(PieceCause::NotReady, 0)),
-        }
+        let Phase::Laid = self.phase else {
+            return Err(Fault::new(PieceCause::NotReady.into(), 0));
+        };
         remember(&self.store, &mut self.points, self.laid as usize);
         self.phase = Phase::Open(step);
         Ok(Ticket {
@@ -147,22 +149,17 @@ impl<S: Store> Piece<S> {
     {
         match self.phase {
             Phase::Open(step) if ticket.number == self.number => Ok(step),
-            _ => Err(refusal(PieceCause::Ticket, 0)),
+            _ => Err(Fault::new(PieceCause::Ticket.into(), 0)),
         }
     }
 
     // Puts a shift into the location of a laid point, and marks the point graded.
     fn put_shift(&mut self, point: u16, shift: Number)
-        requires sound { Sound S.Store self.old }
-        requires laid { point < self.old.laid }
-        ensures sound { Sound S.Store self.new }
-        ensures put { view S.Store self.new ≡ with_shift (view S.Store self.old) point shift }
+        requires { point < self.old.laid }
+        ensures { view S.Store self.new ≡ with_shift (view S.Store self.old) point shift }
     {
         let location = self.points[point as usize].location;
-        match self.store.write(location, Value::Whole(shift)) {
-            Ok(()) => {}
-            Err(_) => unreachable(),
-        }
+        self.store.write(location, Value::Whole(shift)).unwrap();
         self.points[point as usize].graded = true;
     }
 
@@ -173,39 +170,46 @@ impl<S: Store> Piece<S> {
         point: u16,
         rule: &Rule<'_>,
         allowance: u32,
-        lens: &mut [usize],
-        names: &mut [Record<Binding>],
-        levels: &mut [Level],
+        lists: RunLists<'_, '_, '_>,
     ) -> Result<Graded, Fault>
-        requires { Sound S.Store self.old }
-        ensures sound { Sound S.Store self.new }
-        ensures does { (a : Accepted) → a.table ≡ rule.now.nodes.now → Does (view S.Store self.old) (grades ticket.now.number point a allowance (length lens.old, length names.old, length levels.old)) (said Answer.Graded result) (view S.Store self.new) }
+        ensures does { (a : Accepted) → a.table ≡ rule.now.nodes.now → Does (view S.Store self.old) (grades ticket.now.number point a allowance (lengths lists.entry)) (said Answer.Graded result) (view S.Store self.new) }
         ensures ran { (a : Accepted) → a.table ≡ rule.now.nodes.now → RanOn (view S.Store self.old) a allowance result }
     {
         let step = self.resize(ticket)?;
         if point >= self.laid {
-            return Err(refusal(PieceCause::Point, point as usize));
+            return Err(Fault::new(PieceCause::Point.into(), point as usize));
         }
-        let answer = run(rule, step, allowance, &mut self.store, lens, names, levels);
+        // a struct of `&mut` slices is not proved where it is handed on whole, so it is made again
+        let RunLists {
+            lens,
+            names,
+            levels,
+        } = lists;
+        let lists = RunLists {
+            lens,
+            names,
+            levels,
+        };
+        let answer = run(rule, step, allowance, &mut self.store, lists);
         let graded = from_below(point, answer)?;
         self.put_shift(point, graded.shift);
         Ok(graded)
     }
 
     // Ends the resize if every point is graded: the new step becomes the piece's.
+    #[tactic(auto, using(crate::proofs::Passes::position_ungraded))]
     pub fn keep(&mut self, ticket: Ticket) -> Result<Number, Returned>
-        requires { Sound S.Store self.old }
-        ensures sound { Sound S.Store self.new }
         ensures back { Back ticket result }
         ensures does { Does (view S.Store self.old) (keeps ticket.number) (said_back Answer.Kept result) (view S.Store self.new) }
     {
+        // the ticket goes back with a refusal, and a closure that holds it could not be dropped: hence no `map_err` and `?`
         let step = match self.resize(&ticket) {
             Ok(step) => step,
             Err(fault) => return Err(Returned { fault, ticket }),
         };
         if let Some(point) = first_ungraded(&self.points[..self.laid as usize]) {
             return Err(Returned {
-                fault: refusal(PieceCause::Ungraded, point),
+                fault: Fault::new(PieceCause::Ungraded.into(), point),
                 ticket,
             });
         }
@@ -217,14 +221,11 @@ impl<S: Store> Piece<S> {
 
     // Ends the resize: the shifts that it remembers are put back.
     pub fn undo(&mut self, ticket: Ticket) -> Result<Number, Returned>
-        requires { Sound S.Store self.old }
-        ensures sound { Sound S.Store self.new }
         ensures back { Back ticket result }
         ensures does { Does (view S.Store self.old) (undoes ticket.number) (said_back Answer.Undone result) (view S.Store self.new) }
     {
-        match self.resize(&ticket) {
-            Ok(_) => {}
-            Err(fault) => return Err(Returned { fault, ticket }),
+        if let Err(fault) = self.resize(&ticket) {
+            return Err(Returned { fault, ticket });
         }
         put_back(&mut self.store, &self.points[..self.laid as usize]);
         let Ticket { number: _ } = ticket;

@@ -1,5 +1,5 @@
 // The records of a piece's points, and what is done with all of them.
-ghost use Rattle.std.specs.Prelude.{◌≡◌, ◌≤◌, map, length, take, Some, None};
+ghost use Rattle.std.specs.Prelude.{◌≡◌, ◌≤◌, not, map, length, take, position};
 ghost use Rattle.language.specs.Memory.{live};
 ghost use Rattle.history.specs.States.{holding, Free, lowest_false};
 ghost use Rattle.piece.specs.Views.{shift_in, HoldsShift, AllHoldShifts, locations, shifts, remembered as memories, marks, remembering, Placed};
@@ -7,7 +7,8 @@ ghost use Rattle.piece.specs.Views.{shift_in, HoldsShift, AllHoldShifts, locatio
 use language::{Number, Value};
 use store::Store;
 
-// Where a point's shift is held, the shift that the open resize remembers, and whether the point is graded in it.
+// Where a point's shift is held, the shift that the open resize remembers, and whether the point is graded in it: no
+// option of the shift beside it, which is remembered of each point.
 #[derive(Clone, Copy)]
 pub struct Point {
     pub location: u16,
@@ -26,7 +27,8 @@ pub(crate) fn shift_at<S: Store>(store: &S, location: u16) -> Number
     }
 }
 
-// Takes a location for each of the first points, holding 0.
+// Takes a location for each of the first points, holding 0. It takes the whole table and a count, and so does `remember`:
+// a part of an array is not lent out of a struct that has facts, as the piece has (tried: the borrow check does not cover it).
 pub(crate) fn take_locations<S: Store>(store: &mut S, points: &mut [Point], count: usize)
     requires within { count ≤ length points.old }
     requires empty { live (S.Store.at store.old) ≡ 0 }
@@ -34,11 +36,8 @@ pub(crate) fn take_locations<S: Store>(store: &mut S, points: &mut [Point], coun
     ensures limit_kept { S.Store.bound store.new ≡ S.Store.bound store.old }
     ensures placed { Placed (S.Store.at store.new) (take count points.new) }
 {
-    for i in 0..count {
-        match store.take(Value::Whole(0)) {
-            Ok(location) => points[i].location = location,
-            Err(_) => unreachable(),
-        }
+    for point in &mut points[..count] {
+        point.location = store.take(Value::Whole(0)).unwrap();
     }
 }
 
@@ -48,13 +47,9 @@ pub(crate) fn remember<S: Store>(store: &S, points: &mut [Point], count: usize)
     requires whole { AllHoldShifts (S.Store.at store.now) (take count points.old) }
     ensures remembers { take count points.new ≡ map (remembering (S.Store.at store.now)) (take count points.old) }
 {
-    for i in 0..count {
-        let location = points[i].location;
-        points[i] = Point {
-            location,
-            remembered: shift_at(store, location),
-            graded: false,
-        };
+    for point in &mut points[..count] {
+        point.remembered = shift_at(store, point.location);
+        point.graded = false;
     }
 }
 
@@ -66,21 +61,15 @@ pub(crate) fn put_back<S: Store>(store: &mut S, points: &[Point])
     ensures restored { S.Store.at store.new ≡ holding (locations points.now) (memories points.now) }
 {
     for point in points {
-        match store.write(point.location, Value::Whole(point.remembered)) {
-            Ok(()) => {}
-            Err(_) => unreachable(),
-        }
+        store
+            .write(point.location, Value::Whole(point.remembered))
+            .unwrap();
     }
 }
 
 // The lowest point that is not graded.
 pub(crate) fn first_ungraded(points: &[Point]) -> Option<usize>
-    ensures lowest { result ≡ lowest_false (marks points.now) }
+    ensures { result ≡ position (λ point. not point.graded) points.now }
 {
-    for (i, point) in points.iter().enumerate() {
-        if !point.graded {
-            return Some(i);
-        }
-    }
-    None
+    points.iter().position(|point| !point.graded)
 }

@@ -11,7 +11,7 @@ pub enum Mark {
     Whole,
 }
 
-// A free cell has the number 0, a truth 0 or 1.
+// The cells lie in the caller's memory in this fixed form: a free one has the number 0, a truth 0 or 1.
 #[derive(Clone, Copy, PartialEq, Eq)]
 pub struct Cell {
     pub mark: Mark,
@@ -19,7 +19,7 @@ pub struct Cell {
 }
 
 impl Cell {
-    // The cell of a live location.
+    // The cell of a live location. Not a `From`, which has one fact and no name for it.
     pub fn holding(value: Value) -> Cell
         ensures cell { result ≡ cell_of (Some value) }
         ensures reads_back { value_in result ≡ Some value }

@@ -46,7 +46,8 @@ impl<'a> RecordStore<'a> {
     fn highest_free(&self) -> Option<u16>
         ensures { Found self.now.cells.now result }
     {
-        // the proof with `rposition` did not close: std has no lemma on the items from the back
+        // over `rposition` it was tried, and the proof did not close: std has no lemma on the items from the back, for `find` after
+        // `rev` neither
         for i in (0..self.top).rev() {
             if self.cells[i].value().is_none() {
                 return Some(i as u16);
@@ -90,16 +91,12 @@ impl<'a> Store for RecordStore<'a> {
         ensures rest_kept { drop 65536 self.new.cells.now ≡ drop 65536 self.old.cells.now }
         ensures same_slice { self.new.cells.ghost_name ≡ self.old.cells.ghost_name }
     {
-        match self.highest_free() {
-            Some(location) => {
-                let i = location as usize;
-                self.cells[i] = Cell::holding(value);
-                self.count += 1;
-                self.top = i;
-                Ok(location)
-            }
-            None => Err(Full),
-        }
+        let location = self.highest_free().ok_or(Full)?;
+        let i = location as usize;
+        self.cells[i] = Cell::holding(value);
+        self.count += 1;
+        self.top = i;
+        Ok(location)
     }
 
     fn read(&self, location: u16) -> Result<Value, Dead> {

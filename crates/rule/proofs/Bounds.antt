@@ -1,21 +1,17 @@
 -- A rule needs no more locations than it has nodes.
-use Rattle.std.proofs.Common.{◌≡◌, ℕ, ◌+◌, ◌≤◌, max, Bool, true, false, cond, not, eqb, List, [], ◌∷◌, length, Some, None, Ok, Err, Option, Result, refl, ap, subst, arith}
+use Rattle.std.proofs.Common.{◌≡◌, ℕ, ◌+◌, ◌≤◌, max, Bool, true, false, cond, not, eqb, List, [], ◌∷◌, length, Some, None, Ok, Option, ap, subst, arith}
+use Rattle.language.proofs.Binds.{bind_ok}
 use Rattle.language.specs.declared.values.Scalar.{Scalar}
 use Rattle.language.specs.declared.values.Scalar.TheVariants.{Truth as truths}
-use Rattle.language.specs.declared.faults.Fault.{Fault}
 use Rattle.language.specs.declared.faults.NamesCause.TheVariants.{Repeated, Arguments, Types}
 use Rattle.language.specs.Same.{same}
 use Rattle.language.specs.Tree.{Decl, Com, Procs, Coms, null, assign, if, while, call, block, pnil, pcons, cnil, ccons}
-use Rattle.language.specs.Results.{◌>>=◌, asked}
+use Rattle.language.specs.Results.{asked}
 use Rattle.language.specs.Values.{alike}
 use Rattle.language.specs.Sight.{look, member, without}
 use Rattle.language.specs.Names.{Entry, variable, procedure, refusal, variables, proc_names, types, all_alike, as_variable, as_procedure, check_expr, check_args, check_decls, check_com, check_procs, check_coms}
 use Rattle.language.specs.Spelling.{size, size_procs, size_coms}
 use Rattle.rule.specs.Seen.{Names, Bounded, Below}
-
-pub bind_ok : {A B : Type 0} (r : Result A Fault) (k : A → Result B Fault) (b : B) → (r >>= k) ≡ Ok b → (a : A) × (r ≡ Ok a) × (k a ≡ Ok b)
-bind_ok (Ok a) k b h = (a, refl, h)
-bind_ok (Err f) k b h = let z : ◌≡◌ {A = ℕ} 0 1 = cc in absurd (omega arith)
 
 below_more : (B D : ℕ) (e : Entry) → B ≤ D → Below B e → Below D e
 below_more B D (variable t) le h = tt
@@ -38,7 +34,7 @@ bounded_without B ms (e ∷ ρ) h = go (member e.0 ms) (bounded_without B ms ρ 
     go false k = (h.0, k)
 
 bounded_look : (B : ℕ) (m : ℕ) (ρ : Names) (ts : List Scalar) (n : ℕ) → Bounded B ρ → look m ρ ≡ Some (procedure ts n) → n ≤ B
-bounded_look B m [] ts n h q = let z : ◌≡◌ {A = ℕ} 0 1 = cc in absurd (omega arith)
+bounded_look B m [] ts n h q = cc
 bounded_look B m (e ∷ ρ) ts n h q = go (same m e.0) q (λ k. bounded_look B m ρ ts n h.1 k)
   where
     go : (b : Bool) → cond b (Some e.1) (look m ρ) ≡ Some (procedure ts n) → (look m ρ ≡ Some (procedure ts n) → n ≤ B) → n ≤ B
@@ -46,8 +42,8 @@ bounded_look B m (e ∷ ρ) ts n h q = go (same m e.0) q (λ k. bounded_look B m
     go false q k = k q
 
 as_proc : (i : ℕ) (o : Option Entry) (p : List Scalar × ℕ) → as_procedure i o ≡ Ok p → o ≡ Some (procedure p.0 p.1)
-as_proc i None p h = let z : ◌≡◌ {A = ℕ} 0 1 = cc in absurd (omega arith)
-as_proc i (Some (variable t)) p h = let z : ◌≡◌ {A = ℕ} 0 1 = cc in absurd (omega arith)
+as_proc i None p h = cc
+as_proc i (Some (variable t)) p h = cc
 as_proc i (Some (procedure ts n)) p h = let z : (ts, n) ≡ p = cc in ap (λ q. Some (procedure q.0 q.1)) z
 
 mutual

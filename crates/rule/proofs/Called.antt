@@ -1,5 +1,5 @@
 -- A call, from what was found of its arguments and its procedure.
-use Rattle.std.proofs.Common.{◌≡◌, ℕ, suc, ◌+◌, ◌-◌, ◌≤◌, Bool, true, false, List, [], ◌∷◌, length, take, drop, Ok, Err, Result, sym, refl, ap, ◌∙◌, ap₂, arith}
+use Rattle.std.proofs.Common.{◌≡◌, ℕ, suc, ◌+◌, ◌-◌, ◌≤◌, Bool, true, false, List, [], ◌∷◌, length, take, drop, Ok, Err, Result, MutBor, sym, refl, ap, ◌∙◌, ap₂, arith}
 use Rattle.std.proofs.lemmas.List.{length-take-le, length-drop}
 use Rattle.std.proofs.lemmas.Bool.{eq-eqb, ne_eqb}
 use Rattle.language.specs.declared.tables.Node.{Node}
@@ -9,12 +9,17 @@ use Rattle.language.specs.declared.faults.NamesCause.TheVariants.{Arguments, Typ
 use Rattle.language.specs.Sight.{look}
 use Rattle.language.specs.Tree.{Arg, call}
 use Rattle.language.specs.Names.{refusal, as_procedure, check_args, check_com, all_alike}
+use Rattle.rule.specs.declared.checker.Checker.{Checker}
 use Rattle.rule.specs.declared.entries.Routine.{Routine}
-use Rattle.rule.specs.Seen.{Names, types_in}
+use Rattle.rule.specs.Seen.{Names, types_in, Kept}
 use Rattle.rule.specs.Rows.{ArgsSaid}
 
 pub args_err : (r : Result (Unit {0}) Fault) (f : Fault) (o : Result (List Scalar) Fault) (ts : List Scalar) → r ≡ Err f → o ≡ Err f → ArgsSaid r o ts
 args_err r f o ts e h = rw e h
+
+-- other types in the list
+pub with_types : {a b : Checker} → Kept a b → (ts : MutBor (List Scalar)) (le : length b.table.now ≤ length ts.now) → Kept a (record { table = b.table; scope = b.scope; types = ts; roomy = le })
+with_types k ts le = record { table = k.table; top = k.top; head = k.head; long = k.long; older = k.older }
 
 pub types_long : (ns : List Node) → length (types_in ns) ≡ length ns
 types_long [] = refl
@@ -34,10 +39,10 @@ module _ (table : List Node) (ρ : Names) (i m n : ℕ) (xs : List Arg) (ts : Li
       rw (e, args, found.0, ne_eqb (length (take n ts)) (length (types_in (take q.count (drop q.first table)))) (λ k. ne (sym (length-take-le n ts long) ∙ k ∙ many))) refl
 
   -- the formals as the code cut them out
-  module _ (fs : List Node) (b : Bool) (cut : fs ≡ take (q.first + n - q.first) (drop q.first table)) (same : n ≡ q.count)
+  module _ (fs : List Node) (b : Bool) (cut : fs ≡ take (q.first + q.count - q.first) (drop q.first table)) (same : n ≡ q.count)
       (alike : b ≡ all_alike (take (length fs) ts) (types_in fs)) where
     fs_are : fs ≡ take q.count (drop q.first table)
-    fs_are = let e : q.first + n - q.first ≡ q.count = omega arith in cut ∙ ap (λ (k : ℕ). take k (drop q.first table)) e
+    fs_are = let e : q.first + q.count - q.first ≡ q.count = omega arith in cut ∙ ap (λ (k : ℕ). take k (drop q.first table)) e
 
     fs_long : length fs ≡ n
     fs_long = ap (λ (l : List Node). length l) fs_are ∙ length-take-le q.count (drop q.first table) (omega (arith, found.1, length-drop q.first table)) ∙ sym same

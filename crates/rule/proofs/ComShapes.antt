@@ -1,6 +1,7 @@
 -- What the kind of the last node tells of a command.
 use Rattle.std.proofs.Common.{◌≡◌, ℕ, suc, ◌+◌, ◌-◌, ◌≤◌, true, List, [], ◌∷◌, length, take, drop, is_some, Some, sym, refl, ap, ◌∙◌, subst, ap₂, arith}
 use Rattle.std.proofs.lemmas.List.{drop_more}
+use Rattle.language.proofs.Binds.{some_is}
 use Rattle.language.specs.declared.tables.Node.{Node}
 use Rattle.language.specs.declared.tables.Kind.{Kind}
 use Rattle.language.specs.declared.tables.Kind.TheVariants.{Truth, Whole, Read, Plus, Less, Or, Null, Assign, If, While, Call, Argument, Decl as DeclKind, Proc, Block}
@@ -14,8 +15,8 @@ use Rattle.rule.specs.declared.parts.Part.{Part}
 use Rattle.rule.specs.Pieces.{long, last_node, placed, Cut, begins, Halved, Halves, Thirded, Thirds, commands_at, Blocked, BlockCuts, Inside, IsCom}
 use Rattle.rule.specs.Rows.{decls_from, args_from}
 use Rattle.rule.specs.Shapes.{Assigns, Branches, Loops, Calls, Blocks}
-use Rattle.rule.proofs.Cuts.{com_some, is_expr, is_com, is_coms, is_procs, cut_long, cut_fine}
-use Rattle.rule.proofs.ExprShapes.{ends_last, ends_kind, ends_place, some_is}
+use Rattle.rule.proofs.Cuts.{com_some, is_expr, is_com, is_coms, is_procs, cut_long}
+use Rattle.rule.proofs.ExprShapes.{ends_last, ends_kind, ends_place}
 use Rattle.rule.proofs.Snocs.{com_ended, skip_are}
 
 same_decl : (d : Decl) (s m : ℕ) (t : Scalar) → d.at ≡ s → m ≡ d.name → t ≡ d.type → record { at = s; name = m; type = t } ≡ d
@@ -101,16 +102,16 @@ module _ (p : Part) where
 
   if_shape : (i : ℕ) (e : Expr) (x z : Com) → IsCom p (if i e x z) → IfShape p (if i e x z)
   if_shape i e x z h =
-      let n = com_ended p z (0 + size_expr e + size x) (long p - 1) (omega (arith, h.whole)) (omega arith) h.fine h.at.3 in
-      let y = com_ended p x (0 + size_expr e) (begins p (long p - 1)) n.1 (omega (arith, n.1, h.whole)) h.fine h.at.2 in
+      let n = com_ended p z (0 + size_expr e + size x) (long p - 1) (omega (arith, h.whole)) (omega arith) h.at.3 in
+      let y = com_ended p x (0 + size_expr e) (begins p (long p - 1)) n.1 (omega (arith, n.1, h.whole)) h.at.2 in
       let hz : ComAt p.nodes.now p.lens.now p.first (begins p (long p - 1)) z = subst (λ (s : ℕ). ComAt p.nodes.now p.lens.now p.first s z) (sym n.1) h.at.3 in
       let hx : ComAt p.nodes.now p.lens.now p.first (begins p (begins p (long p - 1))) x = subst (λ (s : ℕ). ComAt p.nodes.now p.lens.now p.first s x) (sym y.1) h.at.2 in
       record {
         thirded = record { some = omega (arith, h.whole); third = n.0; second = y.0 };
         view = λ t u v c.
-            let it = is_expr e c.first (omega (arith, y.1)) (omega (arith, y.1, h.whole)) h.fine h.at.1 in
-            let iu = is_com x c.second (omega (arith, y.1, n.1)) (omega (arith, n.1, h.whole)) h.fine hx in
-            let iv = is_com z c.third (omega (arith, n.1, h.whole)) (omega arith) h.fine hz in
+            let it = is_expr e c.first (omega (arith, y.1)) (omega (arith, y.1, h.whole)) h.at.1 in
+            let iu = is_com x c.second (omega (arith, y.1, n.1)) (omega (arith, n.1, h.whole)) hx in
+            let iv = is_com z c.third (omega (arith, n.1, h.whole)) (omega arith) hz in
             record {
               e = e;
               x = x;
@@ -127,13 +128,13 @@ module _ (p : Part) where
 
   while_shape : (i : ℕ) (e : Expr) (x : Com) → IsCom p (while i e x) → WhileShape p (while i e x)
   while_shape i e x h =
-      let n = com_ended p x (0 + size_expr e) (long p - 1) (omega (arith, h.whole)) (omega arith) h.fine h.at.2 in
+      let n = com_ended p x (0 + size_expr e) (long p - 1) (omega (arith, h.whole)) (omega arith) h.at.2 in
       let hx : ComAt p.nodes.now p.lens.now p.first (begins p (long p - 1)) x = subst (λ (s : ℕ). ComAt p.nodes.now p.lens.now p.first s x) (sym n.1) h.at.2 in
       record {
         halved = record { some = omega (arith, h.whole); ended = n.0 };
         view = λ t b c.
-            let it = is_expr e c.left (omega (arith, n.1)) (omega (arith, n.1, h.whole)) h.fine h.at.1 in
-            let ib = is_com x c.right (omega (arith, n.1, h.whole)) (omega arith) h.fine hx in
+            let it = is_expr e c.left (omega (arith, n.1)) (omega (arith, n.1, h.whole)) h.at.1 in
+            let ib = is_com x c.right (omega (arith, n.1, h.whole)) (omega arith) hx in
             record {
               e = e;
               x = x;
@@ -151,7 +152,7 @@ module _ (p : Part) where
       let l = is_args xs c (omega arith) (omega arith) h.at.2 in
       let n = name_last z h.at.0 in
       let j = ends_place p z h.at.0.end in
-      record { is = rw (l, sym j, sym n) refl; fine = cut_fine c (omega arith) (omega arith) h.fine; sizes = omega (arith, cut_long c (omega arith) (omega arith)) }
+      record { is = rw (l, sym j, sym n) refl; sizes = omega (arith, cut_long c (omega arith) (omega arith)) }
 
   block_shape : (i : ℕ) (ds : List Decl) (ps : Procs) (cs : Coms) → IsCom p (block i ds ps cs) → BlockShape p (block i ds ps cs)
   block_shape i ds ps cs h =
@@ -159,25 +160,24 @@ module _ (p : Part) where
       let l = ends_last p z h.at.0 in
       let a : (last_node p).a ≡ length ds = ap (λ (i : ℕ). (node_at p.nodes.now i).a) (sym l) ∙ h.at.1 in
       let m : (last_node p).c ≡ how_many_coms cs = ap (λ (i : ℕ). (node_at p.nodes.now i).c) (sym l) ∙ h.at.3 in
-      let k : commands_at p ≡ 0 + length ds + size_procs ps = skip_are p (last_node p).c cs (0 + length ds + size_procs ps) (long p - 1) m h.at.6 (omega arith) (omega arith) h.fine in
+      let k : commands_at p ≡ 0 + length ds + size_procs ps = skip_are p (last_node p).c cs (0 + length ds + size_procs ps) (long p - 1) m h.at.6 (omega arith) (omega arith) in
       let hq : ProcsAt p.nodes.now p.lens.now p.first (last_node p).a ps = subst (λ (s : ℕ). ProcsAt p.nodes.now p.lens.now p.first s ps) (omega arith) h.at.5 in
       let hr : ComsAt p.nodes.now p.lens.now p.first (commands_at p) cs = subst (λ (s : ℕ). ComsAt p.nodes.now p.lens.now p.first s cs) (sym k) h.at.6 in
       record {
         blocked = record {
           some = omega arith;
-          row = record { s = 0 + length ds + size_procs ps; cs = cs; at = h.at.6; ends = omega arith; many = m; within = omega arith; fine = h.fine };
+          row = record { s = 0 + length ds + size_procs ps; cs = cs; at = h.at.6; ends = omega arith; many = m; within = omega arith };
           order = omega arith;
           low = omega arith;
         };
         view = λ v q r c.
             let d = is_decls ds c.variables (omega arith) (omega arith) h.at.4 in
-            let iq = is_procs ps c.procedures (omega arith) (omega arith) h.fine hq in
-            let ir = is_coms cs c.commands (omega arith) (omega arith) h.fine hr in
+            let iq = is_procs ps c.procedures (omega arith) (omega arith) hq in
+            let ir = is_coms cs c.commands (omega arith) (omega arith) hr in
             record {
               ps = ps;
               cs = cs;
               is = ap₂ (λ (j : ℕ) (ds : List Decl). block j ds ps cs) (ends_place p z h.at.0) (sym d);
-              fine = cut_fine c.variables (omega arith) (omega arith) h.fine;
               procedures = iq;
               commands = ir;
               procedures_in = inside (omega arith) (omega arith) c.procedures;
@@ -194,7 +194,7 @@ module _ (p : Part) where
     λ v c. record {
       e = e;
       is = ap₂ (λ (j n : ℕ). assign j n e) (ends_place p h.whole h.at.0.end) (name_last h.whole h.at.0);
-      value = is_expr e c (omega (arith, h.whole)) (omega arith) h.fine h.at.1;
+      value = is_expr e c (omega (arith, h.whole)) (omega arith) h.at.1;
     },
   )
   shape (if i e x z) h = (If, ends_kind p h.whole h.at.0, if_shape i e x z h)
@@ -204,7 +204,7 @@ module _ (p : Part) where
 
   -- at the kind that the code has found
   pub shape_of : (k : Kind) (c : Com) → with_number (last_node p).kind ≡ Some k → IsCom p c → Shape p k c
-  shape_of k c e h = let w = shape c h in subst (λ (k : Kind). Shape p k c) (some_is (sym w.1 ∙ e)) w.2
+  shape_of k c e h = let w = shape c h in subst (λ (k : Kind). Shape p k c) (some_is _ _ (sym w.1 ∙ e)) w.2
 
   pub com_known : (c : Com) → IsCom p c → is_some (with_number (last_node p).kind) ≡ true
   com_known c h = ap is_some (shape c h).1
@@ -212,23 +212,23 @@ module _ (p : Part) where
   pub com_long : (c : Com) → IsCom p c → 1 ≤ long p
   com_long c h = omega (arith, h.whole, com_some c)
 
-  -- a kind that is none of the first five
-  pub shape_rest : (k : Kind) (c : Com) → (k ≡ Null → ⊥) → (k ≡ Assign → ⊥) → (k ≡ If → ⊥) → (k ≡ While → ⊥) → (k ≡ Call → ⊥) → Shape p k c → BlockShape p c
-  shape_rest Truth x a b c d e h = absurd h
-  shape_rest Whole x a b c d e h = absurd h
-  shape_rest Read x a b c d e h = absurd h
-  shape_rest Plus x a b c d e h = absurd h
-  shape_rest Less x a b c d e h = absurd h
-  shape_rest Or x a b c d e h = absurd h
-  shape_rest Null x a b c d e h = absurd (a refl)
-  shape_rest Assign x a b c d e h = absurd (b refl)
-  shape_rest If x a b c d e h = absurd (c refl)
-  shape_rest While x a b c d e h = absurd (d refl)
-  shape_rest Call x a b c d e h = absurd (e refl)
-  shape_rest Argument x a b c d e h = absurd h
-  shape_rest DeclKind x a b c d e h = absurd h
-  shape_rest Proc x a b c d e h = absurd h
-  shape_rest Block x a b c d e h = h
+  -- a command is of no other kind
+  pub no_other : (k : Kind) (c : Com) → (k ≡ Null → ⊥) → (k ≡ Assign → ⊥) → (k ≡ If → ⊥) → (k ≡ While → ⊥) → (k ≡ Call → ⊥) → (k ≡ Block → ⊥) → Shape p k c → ⊥
+  no_other Truth x a b c d e f h = h
+  no_other Whole x a b c d e f h = h
+  no_other Read x a b c d e f h = h
+  no_other Plus x a b c d e f h = h
+  no_other Less x a b c d e f h = h
+  no_other Or x a b c d e f h = h
+  no_other Null x a b c d e f h = a refl
+  no_other Assign x a b c d e f h = b refl
+  no_other If x a b c d e f h = c refl
+  no_other While x a b c d e f h = d refl
+  no_other Call x a b c d e f h = e refl
+  no_other Argument x a b c d e f h = h
+  no_other DeclKind x a b c d e f h = h
+  no_other Proc x a b c d e f h = h
+  no_other Block x a b c d e f h = f refl
 
   -- with the name that the code has read
   pub assign_shows : (n : Node) (c : Com) (v : Part) → n ≡ last_node p → Assigns p (last_node p).name v c → Assigns p n.name v c

@@ -9,7 +9,7 @@ use Rattle.language.specs.Table.{type_of}
 use Rattle.language.specs.Spelling.{size_expr, size, size_procs, size_coms}
 use Rattle.table.specs.Stretches.{blank, node_at, Ends, Named, ExprAt, ArgsAt, DeclsAt, ComAt, ProcAt, ProcsAt, ComsAt}
 use Rattle.rule.specs.declared.parts.Part.{Part}
-use Rattle.rule.specs.Pieces.{long, Cut, Fine, IsExpr, IsCom, IsComs, IsProcs, IsProc}
+use Rattle.rule.specs.Pieces.{long, Cut, IsExpr, IsCom, IsComs, IsProcs, IsProc}
 
 pub expr_some : (e : Expr) → 1 ≤ size_expr e
 expr_some (truth b) = omega arith
@@ -146,55 +146,43 @@ module _ {p q : Part} {s e : ℕ} where
   pub cut_long : Cut p q s e → s ≤ e → e ≤ long p → long q ≡ e - s
   cut_long c se le = ap (λ (l : List Node). length l) c.nodes ∙ length-take-le (e - s) (drop s p.nodes.now) (omega (arith, length-drop s p.nodes.now))
 
-  pub cut_fine : Cut p q s e → s ≤ e → e ≤ long p → Fine p → Fine q
-  cut_fine c se le f =
-      let n = cut_long c se le in
-      let m : length q.lens.now ≡ e - s =
-      ap (λ (l : List ℕ). length l) c.lens ∙ length-take-le (e - s) (drop s p.lens.now) (omega (arith, f.lens, length-drop s p.lens.now)) in
-      record { lens = m ∙ sym n; most = omega (arith, f.most, c.first) }
-
-  pub is_expr : (x : Expr) → Cut p q s e → e ≡ s + size_expr x → e ≤ long p → Fine p → ExprAt p.nodes.now p.lens.now p.first s x → IsExpr q x
-  is_expr x c z le f h =
+  pub is_expr : (x : Expr) → Cut p q s e → e ≡ s + size_expr x → e ≤ long p → ExprAt p.nodes.now p.lens.now p.first s x → IsExpr q x
+  is_expr x c z le h =
       record {
         at = subst (λ (o : ℕ). ExprAt q.nodes.now q.lens.now o 0 x) (sym c.first)
             (expr_cut p.nodes.now q.nodes.now p.lens.now q.lens.now p.first s (e - s) (cut_nodes c) (cut_lens c) x s 0 (omega arith) (omega arith) h);
         whole = omega (arith, cut_long c (omega arith) le);
-        fine = cut_fine c (omega arith) le f;
       }
 
-  pub is_com : (x : Com) → Cut p q s e → e ≡ s + size x → e ≤ long p → Fine p → ComAt p.nodes.now p.lens.now p.first s x → IsCom q x
-  is_com x c z le f h =
+  pub is_com : (x : Com) → Cut p q s e → e ≡ s + size x → e ≤ long p → ComAt p.nodes.now p.lens.now p.first s x → IsCom q x
+  is_com x c z le h =
       record {
         at = subst (λ (o : ℕ). ComAt q.nodes.now q.lens.now o 0 x) (sym c.first)
             (com_cut p.nodes.now q.nodes.now p.lens.now q.lens.now p.first s (e - s) (cut_nodes c) (cut_lens c) x s 0 (omega arith) (omega arith) h);
         whole = omega (arith, cut_long c (omega arith) le);
-        fine = cut_fine c (omega arith) le f;
       }
 
-  pub is_coms : (x : Coms) → Cut p q s e → e ≡ s + size_coms x → e ≤ long p → Fine p → ComsAt p.nodes.now p.lens.now p.first s x → IsComs q x
-  is_coms x c z le f h =
+  pub is_coms : (x : Coms) → Cut p q s e → e ≡ s + size_coms x → e ≤ long p → ComsAt p.nodes.now p.lens.now p.first s x → IsComs q x
+  is_coms x c z le h =
       record {
         at = subst (λ (o : ℕ). ComsAt q.nodes.now q.lens.now o 0 x) (sym c.first)
             (coms_cut p.nodes.now q.nodes.now p.lens.now q.lens.now p.first s (e - s) (cut_nodes c) (cut_lens c) x s 0 (omega arith) (omega arith) h);
         whole = omega (arith, cut_long c (omega arith) le);
-        fine = cut_fine c (omega arith) le f;
       }
 
-  pub is_procs : (x : Procs) → Cut p q s e → e ≡ s + size_procs x → e ≤ long p → Fine p → ProcsAt p.nodes.now p.lens.now p.first s x → IsProcs q x
-  is_procs x c z le f h =
+  pub is_procs : (x : Procs) → Cut p q s e → e ≡ s + size_procs x → e ≤ long p → ProcsAt p.nodes.now p.lens.now p.first s x → IsProcs q x
+  is_procs x c z le h =
       record {
         at = subst (λ (o : ℕ). ProcsAt q.nodes.now q.lens.now o 0 x) (sym c.first)
             (procs_cut p.nodes.now q.nodes.now p.lens.now q.lens.now p.first s (e - s) (cut_nodes c) (cut_lens c) x s 0 (omega arith) (omega arith) h);
         whole = omega (arith, cut_long c (omega arith) le);
-        fine = cut_fine c (omega arith) le f;
       }
 
-  pub is_proc : (i m : ℕ) (fs : List Decl) (x : Com) → Cut p q s e → e ≡ s + (length fs + size x + 1) → e ≤ long p → Fine p
+  pub is_proc : (i m : ℕ) (fs : List Decl) (x : Com) → Cut p q s e → e ≡ s + (length fs + size x + 1) → e ≤ long p
       → ProcAt p.nodes.now p.lens.now p.first s i m fs x → IsProc q i m fs x
-  is_proc i m fs x c z le f h =
+  is_proc i m fs x c z le h =
       record {
         at = subst (λ (o : ℕ). ProcAt q.nodes.now q.lens.now o 0 i m fs x) (sym c.first)
             (proc_cut p.nodes.now q.nodes.now p.lens.now q.lens.now p.first s (e - s) (cut_nodes c) (cut_lens c) i m fs x s 0 (omega arith) (omega arith) h);
         whole = omega (arith, cut_long c (omega arith) le);
-        fine = cut_fine c (omega arith) le f;
       }

@@ -1,5 +1,6 @@
 -- What the kind of the last node tells of an expression.
 use Rattle.std.proofs.Common.{◌≡◌, ℕ, ◌+◌, ◌-◌, ◌≤◌, true, get_or, is_some, Some, Ok, sym, refl, ap, ◌∙◌, subst, arith}
+use Rattle.language.proofs.Binds.{some_is}
 use Rattle.language.specs.declared.tables.Node.{Node}
 use Rattle.language.specs.declared.tables.Kind.{Kind}
 use Rattle.language.specs.declared.tables.Kind.TheVariants.{Truth, Whole, Read, Plus, Less, Or, Null, Assign, If, While, Call, Argument, Decl as DeclKind, Proc, Block}
@@ -13,7 +14,7 @@ use Rattle.language.specs.Names.{as_variable, check_expr}
 use Rattle.table.specs.Stretches.{node_at, Ends, ExprAt}
 use Rattle.rule.specs.declared.parts.Part.{Part}
 use Rattle.rule.specs.declared.expressions.ExprView.{ExprView}
-use Rattle.rule.specs.Pieces.{long, last_node, placed, Fine, begins, Ended, Halved, Halves, IsExpr}
+use Rattle.rule.specs.Pieces.{long, last_node, placed, begins, Ended, Halved, Halves, IsExpr}
 use Rattle.rule.specs.Seen.{Names}
 use Rattle.rule.specs.Shown.{both, Pair, Shows, Operates}
 use Rattle.rule.proofs.Cuts.{expr_some, is_expr}
@@ -40,9 +41,6 @@ Shape p DeclKind x = ⊥
 Shape p Proc x = ⊥
 Shape p Block x = ⊥
 
-pub some_is : {A : Type 0} {a b : A} → Some a ≡ Some b → a ≡ b
-some_is h = cc
-
 module _ (p : Part) where
   -- a stretch that is the whole part ends with its last node
   pub ends_last : {o z i : ℕ} {k : Kind} → long p ≡ z → (h : Ends p.nodes.now p.lens.now o 0 z i k) → h.last ≡ long p - 1
@@ -55,36 +53,33 @@ module _ (p : Part) where
   ends_place e h = h.number ∙ ap (λ (l : ℕ). p.first + l) (ends_last e h)
 
   -- the piece that ends right before e begins where its length says
-  pub ended_at : {o s z i e : ℕ} {k : Kind} → 1 ≤ z → e ≡ s + z → e ≤ long p → Fine p → Ends p.nodes.now p.lens.now o s z i k → Ended p e × (begins p e ≡ s)
-  ended_at {o} {s} {z} {i} {e} so q le f h =
+  pub ended_at : {o s z i e : ℕ} {k : Kind} → 1 ≤ z → e ≡ s + z → e ≤ long p → Ends p.nodes.now p.lens.now o s z i k → Ended p e × (begins p e ≡ s)
+  ended_at {o} {s} {z} {i} {e} so q le h =
       let j : h.last ≡ e - 1 = omega (arith, h.ends) in
       let l : get_or p.lens.now (e - 1) 0 ≡ z = ap (λ (i : ℕ). get_or p.lens.now i 0) (sym j) ∙ h.len in
-      (record { some = omega arith; within = le; fits = omega arith; fine = f }, omega arith)
+      (record { some = omega arith; within = le; fits = omega arith }, omega arith)
 
-  pub expr_ended : (x : Expr) (s e : ℕ) → e ≡ s + size_expr x → e ≤ long p → Fine p → ExprAt p.nodes.now p.lens.now p.first s x → Ended p e × (begins p e ≡ s)
-  expr_ended (truth b) s e q le f h = ended_at (omega arith) q le f h
-  expr_ended (whole z) s e q le f h = ended_at (omega arith) q le f h
-  expr_ended (read i m) s e q le f h = ended_at (omega arith) q le f h.end
-  expr_ended (plus i l r) s e q le f h = ended_at (omega arith) q le f h.0
-  expr_ended (less i l r) s e q le f h = ended_at (omega arith) q le f h.0
-  expr_ended (or i l r) s e q le f h = ended_at (omega arith) q le f h.0
+  pub expr_ended : (x : Expr) (s e : ℕ) → e ≡ s + size_expr x → e ≤ long p → ExprAt p.nodes.now p.lens.now p.first s x → Ended p e × (begins p e ≡ s)
+  expr_ended (truth b) s e q le h = ended_at (omega arith) q le h
+  expr_ended (whole z) s e q le h = ended_at (omega arith) q le h
+  expr_ended (read i m) s e q le h = ended_at (omega arith) q le h.end
+  expr_ended (plus i l r) s e q le h = ended_at (omega arith) q le h.0
+  expr_ended (less i l r) s e q le h = ended_at (omega arith) q le h.0
+  expr_ended (or i l r) s e q le h = ended_at (omega arith) q le h.0
 
-  split : (want give : Scalar) (x l r : Expr) → Fine p → long p ≡ size_expr l + size_expr r + 1 → ExprAt p.nodes.now p.lens.now p.first 0 l
+  split : (want give : Scalar) (x l r : Expr) → long p ≡ size_expr l + size_expr r + 1 → ExprAt p.nodes.now p.lens.now p.first 0 l
       → ExprAt p.nodes.now p.lens.now p.first (0 + size_expr l) r → ((ρ : Names) → check_expr ρ x ≡ both ρ l r want give (placed p)) → Split p want give x
-  split want give x l r f e hl hr says =
-      let b = expr_ended r (0 + size_expr l) (long p - 1) (omega arith) (omega arith) f hr in
+  split want give x l r e hl hr says =
+      let b = expr_ended r (0 + size_expr l) (long p - 1) (omega arith) (omega arith) hr in
       let m : begins p (long p - 1) ≡ size_expr l = b.1 ∙ omega arith in
       let hr' : ExprAt p.nodes.now p.lens.now p.first (begins p (long p - 1)) r = subst (λ (s : ℕ). ExprAt p.nodes.now p.lens.now p.first s r) (sym b.1) hr in
       record {
         halved = record { some = omega arith; ended = b.0 };
         pair = λ u v h.
-            let il = is_expr l h.left (omega arith) (omega arith) f hl in
-            let ir = is_expr r h.right (omega arith) (omega arith) f hr' in
+            let il = is_expr l h.left (omega arith) (omega arith) hl in
+            let ir = is_expr r h.right (omega arith) (omega arith) hr' in
             record { e = l; f = r; left = il; right = ir; sizes = omega (arith, il.whole, ir.whole); says = says };
       }
-
-  at_kind : {k : Kind} {x : Expr} → with_number (last_node p).kind ≡ Some k → Shape p k x → (k : Kind) × (with_number (last_node p).kind ≡ Some k) × Shape p k x
-  at_kind {k} e h = (k, e, h)
 
   shape : (x : Expr) → IsExpr p x → (k : Kind) × (with_number (last_node p).kind ≡ Some k) × Shape p k x
   shape (truth b) h = (Truth, ends_kind h.whole h.at, λ ρ. refl)
@@ -95,22 +90,22 @@ module _ (p : Part) where
   shape (plus i l r) h = (
     Plus,
     ends_kind h.whole h.at.0,
-    split wholes wholes (plus i l r) l r h.fine h.whole h.at.1 h.at.2 (λ ρ. ap (both ρ l r wholes wholes) (ends_place h.whole h.at.0)),
+    split wholes wholes (plus i l r) l r h.whole h.at.1 h.at.2 (λ ρ. ap (both ρ l r wholes wholes) (ends_place h.whole h.at.0)),
   )
   shape (less i l r) h = (
     Less,
     ends_kind h.whole h.at.0,
-    split wholes truths (less i l r) l r h.fine h.whole h.at.1 h.at.2 (λ ρ. ap (both ρ l r wholes truths) (ends_place h.whole h.at.0)),
+    split wholes truths (less i l r) l r h.whole h.at.1 h.at.2 (λ ρ. ap (both ρ l r wholes truths) (ends_place h.whole h.at.0)),
   )
   shape (or i l r) h = (
     Or,
     ends_kind h.whole h.at.0,
-    split truths truths (or i l r) l r h.fine h.whole h.at.1 h.at.2 (λ ρ. ap (both ρ l r truths truths) (ends_place h.whole h.at.0)),
+    split truths truths (or i l r) l r h.whole h.at.1 h.at.2 (λ ρ. ap (both ρ l r truths truths) (ends_place h.whole h.at.0)),
   )
 
   -- at the kind that the code has found
   pub shape_of : (k : Kind) (x : Expr) → with_number (last_node p).kind ≡ Some k → IsExpr p x → Shape p k x
-  shape_of k x e h = let w = shape x h in subst (λ (k : Kind). Shape p k x) (some_is (sym w.1 ∙ e)) w.2
+  shape_of k x e h = let w = shape x h in subst (λ (k : Kind). Shape p k x) (some_is _ _ (sym w.1 ∙ e)) w.2
 
   pub expr_known : (x : Expr) → IsExpr p x → is_some (with_number (last_node p).kind) ≡ true
   expr_known x h = ap is_some (shape x h).1
@@ -124,21 +119,21 @@ module _ (p : Part) where
   pub read_shows : (n : Node) (x : Expr) → n ≡ last_node p → Shape p Read x → (ρ : Names) → check_expr ρ x ≡ as_variable (placed p) (look n.name ρ)
   read_shows n x e h ρ = h ρ ∙ ap (λ (n : Node). as_variable (placed p) (look n.name ρ)) (sym e)
 
-  -- a kind that is none of the first five
-  pub shape_rest : (k : Kind) (x : Expr) → (k ≡ Truth → ⊥) → (k ≡ Whole → ⊥) → (k ≡ Read → ⊥) → (k ≡ Plus → ⊥) → (k ≡ Less → ⊥)
-      → Shape p k x → Split p truths truths x
-  shape_rest Truth x a b c d e h = absurd (a refl)
-  shape_rest Whole x a b c d e h = absurd (b refl)
-  shape_rest Read x a b c d e h = absurd (c refl)
-  shape_rest Plus x a b c d e h = absurd (d refl)
-  shape_rest Less x a b c d e h = absurd (e refl)
-  shape_rest Or x a b c d e h = h
-  shape_rest Null x a b c d e h = absurd h
-  shape_rest Assign x a b c d e h = absurd h
-  shape_rest If x a b c d e h = absurd h
-  shape_rest While x a b c d e h = absurd h
-  shape_rest Call x a b c d e h = absurd h
-  shape_rest Argument x a b c d e h = absurd h
-  shape_rest DeclKind x a b c d e h = absurd h
-  shape_rest Proc x a b c d e h = absurd h
-  shape_rest Block x a b c d e h = absurd h
+  -- an expression is of no other kind
+  pub no_other : (k : Kind) (x : Expr) → (k ≡ Truth → ⊥) → (k ≡ Whole → ⊥) → (k ≡ Read → ⊥) → (k ≡ Plus → ⊥) → (k ≡ Less → ⊥) → (k ≡ Or → ⊥)
+      → Shape p k x → ⊥
+  no_other Truth x a b c d e f h = a refl
+  no_other Whole x a b c d e f h = b refl
+  no_other Read x a b c d e f h = c refl
+  no_other Plus x a b c d e f h = d refl
+  no_other Less x a b c d e f h = e refl
+  no_other Or x a b c d e f h = f refl
+  no_other Null x a b c d e f h = h
+  no_other Assign x a b c d e f h = h
+  no_other If x a b c d e f h = h
+  no_other While x a b c d e f h = h
+  no_other Call x a b c d e f h = h
+  no_other Argument x a b c d e f h = h
+  no_other DeclKind x a b c d e f h = h
+  no_other Proc x a b c d e f h = h
+  no_other Block x a b c d e f h = h

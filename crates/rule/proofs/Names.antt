@@ -6,8 +6,7 @@ use Rattle.language.specs.Sight.{member}
 use Rattle.language.specs.Tree.{Procs}
 use Rattle.language.specs.Spelling.{how_many_procs}
 use Rattle.language.specs.Names.{proc_names}
-use Rattle.scope.specs.declared.Scope.{Scope}
-use Rattle.rule.specs.declared.entries.Entry.{Entry}
+use Rattle.rule.specs.declared.checker.Checker.{Checker}
 use Rattle.rule.specs.declared.entries.Entry.TheVariants.{Hidden}
 use Rattle.rule.specs.declared.parts.Part.{Part}
 use Rattle.rule.specs.Pieces.{last_node, IsProcs}
@@ -32,5 +31,5 @@ module _ {p l r : Part} {ps : Procs} (w : ProcsParts p l r ps) where
   hides n σ τ ω e h k =
       k w.init w.front ∙ ap (hidden (proc_names w.init)) (h ∙ ap (λ (m : ℕ). (m, Hidden) ∷ σ) (ap (λ (n : Node). n.name) e ∙ w.name)) ∙ sym (w.hides σ)
 
-  pub hidden_grown : {a b c : Scope Entry} → Grown a b 1 → ((qs : Procs) → IsProcs l qs → Grown b c (how_many_procs qs)) → Grown a c (how_many_procs ps)
+  pub hidden_grown : {a b c : Checker} → Grown a b 1 → ((qs : Procs) → IsProcs l qs → Grown b c (how_many_procs qs)) → Grown a c (how_many_procs ps)
   hidden_grown g k = grown_as (omega (arith, w.many)) (grown_then g (k w.init w.front))

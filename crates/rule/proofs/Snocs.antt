@@ -5,7 +5,7 @@ use Rattle.language.specs.Tree.{Decl, Com, Procs, Coms, null, assign, if, while,
 use Rattle.language.specs.Spelling.{how_many_procs, how_many_coms, size, size_procs, size_coms}
 use Rattle.table.specs.Stretches.{ComAt, ProcAt, ProcsAt, ComsAt}
 use Rattle.rule.specs.declared.parts.Part.{Part}
-use Rattle.rule.specs.Pieces.{long, Fine, Ended, begins, RowEnds, skipped}
+use Rattle.rule.specs.Pieces.{long, Ended, begins, RowEnds, skipped}
 use Rattle.rule.proofs.Cuts.{com_some}
 use Rattle.rule.proofs.ExprShapes.{ended_at}
 
@@ -117,17 +117,17 @@ some_coms cnil h = absurd (omega arith)
 some_coms (ccons c cs) h = omega arith
 
 module _ (p : Part) where
-  pub com_ended : (c : Com) (s e : ℕ) → e ≡ s + size c → e ≤ long p → Fine p → ComAt p.nodes.now p.lens.now p.first s c → Ended p e × (begins p e ≡ s)
-  com_ended (null i) s e q le f h = ended_at p (omega arith) q le f h
-  com_ended (assign i m x) s e q le f h = ended_at p (omega arith) q le f h.0.end
-  com_ended (if i x c d) s e q le f h = ended_at p (omega arith) q le f h.0
-  com_ended (while i x c) s e q le f h = ended_at p (omega arith) q le f h.0
-  com_ended (call i m xs) s e q le f h = ended_at p (omega arith) q le f h.0.end
-  com_ended (block i ds ps cs) s e q le f h = ended_at p (omega arith) q le f h.0
+  pub com_ended : (c : Com) (s e : ℕ) → e ≡ s + size c → e ≤ long p → ComAt p.nodes.now p.lens.now p.first s c → Ended p e × (begins p e ≡ s)
+  com_ended (null i) s e q le h = ended_at p (omega arith) q le h
+  com_ended (assign i m x) s e q le h = ended_at p (omega arith) q le h.0.end
+  com_ended (if i x c d) s e q le h = ended_at p (omega arith) q le h.0
+  com_ended (while i x c) s e q le h = ended_at p (omega arith) q le h.0
+  com_ended (call i m xs) s e q le h = ended_at p (omega arith) q le h.0.end
+  com_ended (block i ds ps cs) s e q le h = ended_at p (omega arith) q le h.0
 
-  pub proc_ended : (i m : ℕ) (fs : List Decl) (c : Com) (s e : ℕ) → e ≡ s + (length fs + size c + 1) → e ≤ long p → Fine p
+  pub proc_ended : (i m : ℕ) (fs : List Decl) (c : Com) (s e : ℕ) → e ≡ s + (length fs + size c + 1) → e ≤ long p
       → ProcAt p.nodes.now p.lens.now p.first s i m fs c → Ended p e × (begins p e ≡ s)
-  proc_ended i m fs c s e q le f h = ended_at p (omega arith) q le f h.0.end
+  proc_ended i m fs c s e q le h = ended_at p (omega arith) q le h.0.end
 
   -- one command back
   pub record StepBack (n e : ℕ) : Type 0 where
@@ -138,7 +138,7 @@ module _ (p : Part) where
   step_back n e lt q =
       let u = back_coms p.nodes.now p.lens.now p.first q.cs q.s q.at (omega (arith, q.many)) in
       let z : e ≡ q.s + size_coms u.init + size u.c = omega (arith, q.ends, u.sizes) in
-      let b = com_ended u.c (q.s + size_coms u.init) e z q.within q.fine u.back in
+      let b = com_ended u.c (q.s + size_coms u.init) e z q.within u.back in
       record {
         ended = b.0;
         next = record {
@@ -148,7 +148,6 @@ module _ (p : Part) where
           ends = b.1;
           many = omega (arith, q.many, u.many);
           within = omega (arith, b.1, z, q.within);
-          fine = q.fine;
         };
       }
 
@@ -160,11 +159,11 @@ module _ (p : Part) where
   no_more cnil h = refl
   no_more (ccons c cs) h = absurd (omega arith)
 
-  pub skip_are : (n : ℕ) (cs : Coms) (s e : ℕ) → n ≡ how_many_coms cs → ComsAt p.nodes.now p.lens.now p.first s cs → e ≡ s + size_coms cs → e ≤ long p → Fine p
+  pub skip_are : (n : ℕ) (cs : Coms) (s e : ℕ) → n ≡ how_many_coms cs → ComsAt p.nodes.now p.lens.now p.first s cs → e ≡ s + size_coms cs → e ≤ long p
       → skipped p n e ≡ s
-  skip_are zero cs s e h at q le f = omega (arith, no_more cs h)
-  skip_are (suc n) cs s e h at q le f =
+  skip_are zero cs s e h at q le = omega (arith, no_more cs h)
+  skip_are (suc n) cs s e h at q le =
       let u = back_coms p.nodes.now p.lens.now p.first cs s at (omega arith) in
       let z : e ≡ s + size_coms u.init + size u.c = omega (arith, u.sizes) in
-      let b = com_ended u.c (s + size_coms u.init) e z le f u.back in
-      skip_are n u.init s (begins p e) (omega (arith, u.many)) u.front b.1 (omega (arith, b.1, z)) f
+      let b = com_ended u.c (s + size_coms u.init) e z le u.back in
+      skip_are n u.init s (begins p e) (omega (arith, u.many)) u.front b.1 (omega (arith, b.1, z))

@@ -1,7 +1,6 @@
 -- Parts that are rows or procedures, taken apart.
-use Rattle.std.proofs.Common.{◌≡◌, ℕ, ◌+◌, ◌-◌, ◌*◌, ◌<◌, ◌≤◌, Bool, true, false, ◌||◌, eqb, List, [], ◌∷◌, length, take, drop, Ok, sym, ap, ◌∙◌, subst, ap₂, arith}
+use Rattle.std.proofs.Common.{◌≡◌, ℕ, ◌+◌, ◌-◌, ◌*◌, ◌<◌, ◌≤◌, ◌||◌, List, [], ◌∷◌, length, take, drop, Ok, sym, ap, ◌∙◌, subst, ap₂, arith}
 use Rattle.std.proofs.lemmas.List.{drop-take, take-take, drop-drop}
-use Rattle.std.proofs.lemmas.Bool.{eqb-true, eqb-false}
 use Rattle.language.specs.declared.tables.Node.{Node}
 use Rattle.language.specs.Same.{same}
 use Rattle.language.specs.Tree.{Decl, Com, Procs, Coms, pnil, pcons}
@@ -12,23 +11,16 @@ use Rattle.language.specs.Names.{types, proc_names, check_com, check_coms, check
 use Rattle.table.specs.Stretches.{node_at, ComAt, ProcAt}
 use Rattle.rule.specs.declared.entries.Entry.TheVariants.{Hidden}
 use Rattle.rule.specs.declared.parts.Part.{Part}
-use Rattle.rule.specs.Pieces.{long, last_node, placed, Fine, begins, Ended, Lasts, ProcEnds, ProcCuts, Inside, Lies, IsCom, IsComs, IsProc, IsProcs}
+use Rattle.rule.specs.Pieces.{long, last_node, placed, begins, Ended, Lasts, ProcEnds, ProcCuts, Inside, Lies, IsCom, IsComs, IsProc, IsProcs}
 use Rattle.rule.specs.Rows.{decls_from}
 use Rattle.rule.specs.Seen.{Names, types_in}
 use Rattle.rule.specs.Said.{Entries, hidden, seen_after}
-use Rattle.rule.proofs.Cuts.{com_some, is_com, is_coms, is_procs, is_proc, cut_long, cut_fine}
+use Rattle.rule.proofs.Cuts.{com_some, is_com, is_coms, is_procs, is_proc, cut_long}
 use Rattle.rule.proofs.ExprShapes.{ends_last, ends_place}
 use Rattle.rule.proofs.ComShapes.{is_decls, inside}
 use Rattle.rule.proofs.Snocs.{back_coms, back_procs, com_ended, proc_ended, no_procs, no_coms, some_procs, some_coms}
 use Rattle.rule.proofs.Sights.{types_of, seen_snoc, hidden_snoc}
 use Rattle.rule.proofs.Laws.{largest, coms_snoc, one_proc, procs_snoc}
-
--- a test for no nodes
-pub empty : (b : Bool) (n : ℕ) → b ≡ eqb n 0 → b ≡ true → n ≡ 0
-empty b n e t = eqb-true n 0 (sym e ∙ t)
-
-pub filled : (b : Bool) (n : ℕ) → b ≡ eqb n 0 → b ≡ false → 0 < n
-filled b n e t = let ne : n ≡ 0 → ⊥ = eqb-false n 0 (sym e ∙ t) in omega (arith, ne)
 
 pub inside_long : {p q : Part} → Inside p q → long q ≤ long p
 inside_long i = omega (arith, cut_long i.cut i.order i.within, i.within)
@@ -59,22 +51,22 @@ pub record ComsParts (p l r : Part) (cs : Coms) : Type 0 where
   pub some : 1 ≤ long r
   pub says : (ρ : Names) → check_coms ρ cs ≡ largest (check_coms ρ init) (check_com ρ c)
 
-pub record ComsSplit (p : Part) (cs : Coms) : Type 0 where
+record ComsSplit (p : Part) (cs : Coms) : Type 0 where
   pub ended : Ended p (long p)
   pub parts : (l r : Part) → Lasts p l r → ComsParts p l r cs
 
-pub coms_split : (p : Part) (cs : Coms) → 0 < long p → IsComs p cs → ComsSplit p cs
+coms_split : (p : Part) (cs : Coms) → 0 < long p → IsComs p cs → ComsSplit p cs
 coms_split p cs lt is =
     let u = back_coms p.nodes.now p.lens.now p.first cs 0 is.at (some_coms cs (omega (arith, is.whole))) in
     let z : long p ≡ 0 + size_coms u.init + size u.c = omega (arith, is.whole, u.sizes) in
-    let b = com_ended p u.c (0 + size_coms u.init) (long p) z (omega arith) is.fine u.back in
+    let b = com_ended p u.c (0 + size_coms u.init) (long p) z (omega arith) u.back in
     let back : ComAt p.nodes.now p.lens.now p.first (begins p (long p)) u.c =
     subst (λ (s : ℕ). ComAt p.nodes.now p.lens.now p.first s u.c) (sym b.1) u.back in
     record {
       ended = b.0;
       parts = λ l r h.
-          let il = is_coms u.init h.left b.1 (omega (arith, b.1, z)) is.fine u.front in
-          let ir = is_com u.c h.right (omega (arith, b.1, z)) (omega arith) is.fine back in
+          let il = is_coms u.init h.left b.1 (omega (arith, b.1, z)) u.front in
+          let ir = is_com u.c h.right (omega (arith, b.1, z)) (omega arith) back in
           record {
             init = u.init;
             c = u.c;
@@ -88,8 +80,14 @@ coms_split p cs lt is =
           };
     }
 
-pub coms_none : (p : Part) (cs : Coms) (ρ : Names) → long p ≡ 0 → IsComs p cs → Ok 0 ≡ check_coms ρ cs
-coms_none p cs ρ e is = sym (ap (check_coms ρ) (no_coms cs (sym is.whole ∙ e)))
+pub coms_ended : {p : Part} (cs : Coms) → IsComs p cs → 1 ≤ long p → Ended p (long p)
+coms_ended {p} cs is le = (coms_split p cs (omega arith) is).ended
+
+pub coms_parts : {p l r : Part} (cs : Coms) → IsComs p cs → Lasts p l r → ComsParts p l r cs
+coms_parts {p} {l} {r} cs is h = (coms_split p cs (omega (arith, h.some)) is).parts l r h
+
+pub coms_none : {p : Part} (cs : Coms) (ρ : Names) → long p ≡ 0 → IsComs p cs → Ok 0 ≡ check_coms ρ cs
+coms_none cs ρ e is = sym (ap (check_coms ρ) (no_coms cs (sym is.whole ∙ e)))
 
 -- ---- procedures in a row
 pub record ProcsParts (p l r : Part) (ps : Procs) : Type 0 where
@@ -112,7 +110,7 @@ pub record ProcsParts (p l r : Part) (ps : Procs) : Type 0 where
   pub hides : (σ : Entries) → hidden (proc_names ps) σ ≡ hidden (proc_names init) ((m, Hidden) ∷ σ)
   pub names : (x : ℕ) → member x (seen_after ps []) ≡ (same x m || member x (seen_after init []))
 
-pub record ProcsSplit (p : Part) (ps : Procs) : Type 0 where
+record ProcsSplit (p : Part) (ps : Procs) : Type 0 where
   pub ended : Ended p (long p)
   pub parts : (l r : Part) → Lasts p l r → ProcsParts p l r ps
 
@@ -120,18 +118,18 @@ pub two_each : (ps : Procs) → 2 * how_many_procs ps ≤ size_procs ps
 two_each pnil = omega arith
 two_each (pcons i m fs c ps) = omega (arith, two_each ps, com_some c)
 
-pub procs_split : (p : Part) (ps : Procs) → 0 < long p → IsProcs p ps → ProcsSplit p ps
+procs_split : (p : Part) (ps : Procs) → 0 < long p → IsProcs p ps → ProcsSplit p ps
 procs_split p ps lt is =
     let u = back_procs p.nodes.now p.lens.now p.first ps 0 is.at (some_procs ps (omega (arith, is.whole))) in
     let z : long p ≡ 0 + size_procs u.init + (length u.fs + size u.c + 1) = omega (arith, is.whole, u.sizes) in
-    let b = proc_ended p u.i u.m u.fs u.c (0 + size_procs u.init) (long p) z (omega arith) is.fine u.back in
+    let b = proc_ended p u.i u.m u.fs u.c (0 + size_procs u.init) (long p) z (omega arith) u.back in
     let back : ProcAt p.nodes.now p.lens.now p.first (begins p (long p)) u.i u.m u.fs u.c =
     subst (λ (s : ℕ). ProcAt p.nodes.now p.lens.now p.first s u.i u.m u.fs u.c) (sym b.1) u.back in
     record {
       ended = b.0;
       parts = λ l r h.
-          let il = is_procs u.init h.left b.1 (omega (arith, b.1, z)) is.fine u.front in
-          let ir = is_proc u.i u.m u.fs u.c h.right (omega (arith, b.1, z)) (omega arith) is.fine back in
+          let il = is_procs u.init h.left b.1 (omega (arith, b.1, z)) u.front in
+          let ir = is_proc u.i u.m u.fs u.c h.right (omega (arith, b.1, z)) (omega arith) back in
           record {
             init = u.init;
             i = u.i;
@@ -154,13 +152,18 @@ procs_split p ps lt is =
           };
     }
 
-pub procs_none : (p : Part) (ps : Procs) → long p ≡ 0 → IsProcs p ps → ps ≡ pnil
-procs_none p ps e is = no_procs ps (sym is.whole ∙ e)
+pub procs_ended : {p : Part} (ps : Procs) → IsProcs p ps → 1 ≤ long p → Ended p (long p)
+procs_ended {p} ps is le = (procs_split p ps (omega arith) is).ended
+
+pub procs_parts : {p l r : Part} (ps : Procs) → IsProcs p ps → Lasts p l r → ProcsParts p l r ps
+procs_parts {p} {l} {r} ps is h = (procs_split p ps (omega (arith, h.some)) is).parts l r h
+
+pub procs_none : {p : Part} (ps : Procs) → long p ≡ 0 → IsProcs p ps → ps ≡ pnil
+procs_none ps e is = no_procs ps (sym is.whole ∙ e)
 
 -- ---- one procedure
 pub record ProcParts (p f b : Part) (fs : List Decl) (c : Com) : Type 0 where
   pub formals : decls_from f.first f.nodes.now ≡ fs
-  pub fine : Fine f
   pub formals_in : Inside p f
   pub body : IsCom b c
   pub body_in : Inside p b
@@ -170,7 +173,7 @@ pub proc_long : (p : Part) (i m : ℕ) (fs : List Decl) (c : Com) → IsProc p i
 proc_long p i m fs c is = ap (λ (i : ℕ). (node_at p.nodes.now i).a) (sym (ends_last p is.whole is.at.0.end)) ∙ is.at.1
 
 pub proc_ends : (p : Part) (i m : ℕ) (fs : List Decl) (c : Com) → IsProc p i m fs c → ProcEnds p
-proc_ends p i m fs c is = record { some = omega (arith, is.whole); order = omega (arith, is.whole, proc_long p i m fs c is); fine = is.fine }
+proc_ends p i m fs c is = record { some = omega (arith, is.whole); order = omega (arith, is.whole, proc_long p i m fs c is) }
 
 pub proc_parts : (p f b : Part) (i m : ℕ) (fs : List Decl) (c : Com) → IsProc p i m fs c → ProcCuts p f b → ProcParts p f b fs c
 proc_parts p f b i m fs c is h =
@@ -178,10 +181,9 @@ proc_parts p f b i m fs c is h =
     let z : long p ≡ length fs + size c + 1 = is.whole in
     let body : ComAt p.nodes.now p.lens.now p.first (last_node p).a c =
     subst (λ (s : ℕ). ComAt p.nodes.now p.lens.now p.first s c) (omega arith) is.at.3 in
-    let ib = is_com c h.body (omega arith) (omega arith) is.fine body in
+    let ib = is_com c h.body (omega arith) (omega arith) body in
     record {
       formals = is_decls fs h.formals (omega arith) (omega arith) is.at.2;
-      fine = cut_fine h.formals (omega arith) (omega arith) is.fine;
       formals_in = inside (omega arith) (omega arith) h.formals;
       body = ib;
       body_in = inside (omega arith) (omega arith) h.body;

@@ -22,11 +22,6 @@ pub record Cut (p q : Part) (s e : ℕ) : Type 0 where
   pub lens : q.lens.now ≡ slice_range p.lens.now s e
   pub first : q.first ≡ p.first + s
 
--- each node has its length, and a number that a table has
-pub record Fine (p : Part) : Type 0 where
-  pub lens : length p.lens.now ≡ long p
-  pub most : p.first + long p ≤ 4096
-
 abbrev pub begins : Part → ℕ → ℕ
 begins p e = e - slice_index p.lens.now (e - 1)
 
@@ -35,7 +30,6 @@ pub record Ended (p : Part) (e : ℕ) : Type 0 where
   pub some : 1 ≤ e
   pub within : e ≤ long p
   pub fits : slice_index_or p.lens.now (e - 1) 0 ≤ e
-  pub fine : Fine p
 
 -- a piece ends right before the last node
 pub record Halved (p : Part) : Type 0 where
@@ -61,6 +55,7 @@ pub record Thirds (p f s t : Part) : Type 0 where
 
 -- r is the last piece, and l what stands before it
 pub record Lasts (p l r : Part) : Type 0 where
+  pub some : 1 ≤ long p
   pub left : Cut p l 0 (begins p (long p))
   pub right : Cut p r (begins p (long p)) (long p)
 
@@ -72,7 +67,6 @@ pub record RowEnds (p : Part) (n e : ℕ) : Type 0 where
   pub ends : e ≡ s + size_coms cs
   pub many : n ≡ how_many_coms cs
   pub within : e ≤ long p
-  pub fine : Fine p
 
 -- back over n pieces that end right before e
 abbrev pub skipped : Part → ℕ → ℕ → ℕ
@@ -98,7 +92,6 @@ pub record BlockCuts (p v q r : Part) : Type 0 where
 pub record ProcEnds (p : Part) : Type 0 where
   pub some : 1 ≤ long p
   pub order : (last_node p).a ≤ long p - 1
-  pub fine : Fine p
 
 -- f and b are the formals and the body
 pub record ProcCuts (p f b : Part) : Type 0 where
@@ -122,25 +115,20 @@ pub record Lies (table : List Node) (p : Part) : Type 0 where
 pub record IsExpr (p : Part) (x : Expr) : Type 0 where
   pub at : ExprAt p.nodes.now p.lens.now p.first 0 x
   pub whole : long p ≡ size_expr x
-  pub fine : Fine p
 
 pub record IsCom (p : Part) (c : Com) : Type 0 where
   pub at : ComAt p.nodes.now p.lens.now p.first 0 c
   pub whole : long p ≡ size c
-  pub fine : Fine p
 
 pub record IsComs (p : Part) (cs : Coms) : Type 0 where
   pub at : ComsAt p.nodes.now p.lens.now p.first 0 cs
   pub whole : long p ≡ size_coms cs
-  pub fine : Fine p
 
 pub record IsProcs (p : Part) (ps : Procs) : Type 0 where
   pub at : ProcsAt p.nodes.now p.lens.now p.first 0 ps
   pub whole : long p ≡ size_procs ps
-  pub fine : Fine p
 
 -- one procedure
 pub record IsProc (p : Part) (i m : ℕ) (fs : List Decl) (c : Com) : Type 0 where
   pub at : ProcAt p.nodes.now p.lens.now p.first 0 i m fs c
   pub whole : long p ≡ length fs + size c + 1
-  pub fine : Fine p

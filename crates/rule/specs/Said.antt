@@ -6,15 +6,14 @@ use Rattle.language.specs.Tree.{Decl, Com, Procs, Coms, block, pnil, pcons}
 use Rattle.language.specs.Results.{◌>>=◌}
 use Rattle.language.specs.Spelling.{how_many_procs}
 use Rattle.language.specs.Names.{types, variables, check_decls, check_com, check_coms, check_procs}
-use Rattle.scope.specs.Sight.{in_sight}
-use Rattle.scope.specs.declared.Scope.{Scope}
+use Rattle.rule.specs.declared.checker.Checker.{Checker}
 use Rattle.rule.specs.declared.entries.Entry.{Entry}
 use Rattle.rule.specs.declared.entries.Entry.TheVariants.{Hidden}
 use Rattle.rule.specs.declared.entries.Routine.{Routine}
 use Rattle.rule.specs.declared.parts.Part.{Part}
-use Rattle.rule.specs.Pieces.{long, Fine, Lies, IsCom, IsComs, IsProc, IsProcs}
+use Rattle.rule.specs.Pieces.{long, Lies, IsCom, IsComs, IsProc, IsProcs}
 use Rattle.rule.specs.Rows.{decls_from}
-use Rattle.rule.specs.Seen.{Names, types_in, Looks, Bounded, sight, room, Grown, Kept}
+use Rattle.rule.specs.Seen.{Names, types_in, Looks, Sees, SeesFrom, Bounded, sight, sight_from, room, Grown, Kept}
 
 abbrev pub Entries : Type 0
 Entries = List (ℕ × Entry)
@@ -28,63 +27,62 @@ pub record Sighted (table : List Node) (σ : Entries) (z : ℕ) : Type 0 where
   pub bounded : Bounded B ρ
   pub fits : B + z ≤ 4096
 
-pub record SomeCom (table : List Node) (p : Part) (sc : Scope Entry) : Type 0 where
+pub record SomeCom (k : Checker) (p : Part) : Type 0 where
   pub c : Com
   pub is : IsCom p c
-  pub lies : Lies table p
-  pub seen : Sighted table (sight sc) (long p)
-  pub roomy : sc.top + long p ≤ room sc
+  pub lies : Lies k.table.now p
+  pub seen : Sighted k.table.now (sight k) (long p)
+  pub roomy : k.scope.top + long p ≤ room k
 
-pub record SomeComs (table : List Node) (p : Part) (sc : Scope Entry) : Type 0 where
+pub record SomeComs (k : Checker) (p : Part) : Type 0 where
   pub cs : Coms
   pub is : IsComs p cs
-  pub lies : Lies table p
-  pub seen : Sighted table (sight sc) (long p)
-  pub roomy : sc.top + long p ≤ room sc
+  pub lies : Lies k.table.now p
+  pub seen : Sighted k.table.now (sight k) (long p)
+  pub roomy : k.scope.top + long p ≤ room k
 
 -- variables, procedures and commands
-pub record SomeBlock (table : List Node) (v q r : Part) (sc : Scope Entry) : Type 0 where
+pub record SomeBlock (k : Checker) (v q r : Part) : Type 0 where
   pub ps : Procs
   pub cs : Coms
-  pub fine : Fine v
   pub procedures : IsProcs q ps
   pub commands : IsComs r cs
-  pub procedures_lie : Lies table q
-  pub commands_lie : Lies table r
-  pub seen : Sighted table (sight sc) (long v + long q + long r)
-  pub roomy : sc.top + (long v + long q + long r) ≤ room sc
+  pub procedures_lie : Lies k.table.now q
+  pub commands_lie : Lies k.table.now r
+  pub seen : Sighted k.table.now (sight k) (long v + long q + long r)
+  pub roomy : k.scope.top + (long v + long q + long r) ≤ room k
 
 -- one procedure, whose body sees from the position h
-pub record SomeProc (table : List Node) (p : Part) (h : ℕ) (sc : Scope Entry) : Type 0 where
+pub record SomeProc (k : Checker) (p : Part) (h : ℕ) : Type 0 where
   pub i : ℕ
   pub m : ℕ
   pub fs : List Decl
   pub c : Com
   pub is : IsProc p i m fs c
-  pub lies : Lies table p
-  pub low : h ≤ sc.top
-  pub seen : Sighted table (in_sight sc.records.now h) (long p)
-  pub roomy : sc.top + (long p - 1) ≤ room sc
+  pub lies : Lies k.table.now p
+  pub low : h ≤ k.scope.top
+  pub seen : Sighted k.table.now (sight_from k h) (long p)
+  pub roomy : k.scope.top + (long p - 1) ≤ room k
 
 -- a row of them, whose names are hidden already
-pub record SomeProcs (table : List Node) (p : Part) (h : ℕ) (sc : Scope Entry) : Type 0 where
+pub record SomeProcs (k : Checker) (p : Part) (h : ℕ) : Type 0 where
   pub ps : Procs
   pub is : IsProcs p ps
-  pub lies : Lies table p
-  pub low : h ≤ sc.top
-  pub seen : Sighted table (in_sight sc.records.now h) (long p)
-  pub roomy : sc.top + long p ≤ room sc + how_many_procs ps
+  pub lies : Lies k.table.now p
+  pub low : h ≤ k.scope.top
+  pub seen : Sighted k.table.now (sight_from k h) (long p)
+  pub roomy : k.scope.top + long p ≤ room k + how_many_procs ps
 
 -- ---- what is said
-abbrev pub ComSays : List Node → Part → Entries → Result ℕ Fault → Type 0
-ComSays table p σ r = (c : Com) (ρ : Names) → IsCom p c → Looks table σ ρ → r ≡ check_com ρ c
+abbrev pub ComSays : Checker → Part → Result ℕ Fault → Type 0
+ComSays k p r = (c : Com) (ρ : Names) → IsCom p c → Sees k ρ → r ≡ check_com ρ c
 
-abbrev pub ComsSays : List Node → Part → Entries → Result ℕ Fault → Type 0
-ComsSays table p σ r = (cs : Coms) (ρ : Names) → IsComs p cs → Looks table σ ρ → r ≡ check_coms ρ cs
+abbrev pub ComsSays : Checker → Part → Result ℕ Fault → Type 0
+ComsSays k p r = (cs : Coms) (ρ : Names) → IsComs p cs → Sees k ρ → r ≡ check_coms ρ cs
 
-abbrev pub BlockSays : List Node → (v q r : Part) → Entries → Result ℕ Fault → Type 0
-BlockSays table v q r σ o =
-    (i : ℕ) (ps : Procs) (cs : Coms) (ρ : Names) → IsProcs q ps → IsComs r cs → Looks table σ ρ
+abbrev pub BlockSays : Checker → (v q r : Part) → Result ℕ Fault → Type 0
+BlockSays k v q r o =
+    (i : ℕ) (ps : Procs) (cs : Coms) (ρ : Names) → IsProcs q ps → IsComs r cs → Sees k ρ
     → o ≡ check_com ρ (block i (decls_from v.first v.nodes.now) ps cs)
 
 -- the formals and the body of one procedure
@@ -95,24 +93,25 @@ abbrev pub RoutineIs : List Node → Result Routine Fault → List Decl → Resu
 RoutineIs table (Ok q) fs o = (o ≡ Ok q.need) × (types_in (take q.count (drop q.first table)) ≡ types fs) × (q.first + q.count ≤ length table)
 RoutineIs table (Err f) fs o = o ≡ Err f
 
-abbrev pub ProcSays : List Node → Part → Entries → Result Routine Fault → Type 0
-ProcSays table p σ r = (i m : ℕ) (fs : List Decl) (c : Com) (ρ : Names) → IsProc p i m fs c → Looks table σ ρ → RoutineIs table r fs (body_said ρ fs c)
+-- the body sees from the position h
+abbrev pub ProcSays : Checker → Part → ℕ → Result Routine Fault → Type 0
+ProcSays k p h r = (i m : ℕ) (fs : List Decl) (c : Com) (ρ : Names) → IsProc p i m fs c → SeesFrom k h ρ → RoutineIs k.table.now r fs (body_said ρ fs c)
 
-abbrev pub ProcsSaid : List Node → Result (Unit {0}) Fault → Result Names Fault → Entries → Type 0
-ProcsSaid table (Ok u) o ω = (υ : Names) × (o ≡ Ok υ) × Looks table ω υ
-ProcsSaid table (Err f) o ω = o ≡ Err f
+abbrev pub ProcsSaid : Checker → Result (Unit {0}) Fault → Result Names Fault → Type 0
+ProcsSaid k (Ok u) o = (υ : Names) × (o ≡ Ok υ) × Sees k υ
+ProcsSaid k (Err f) o = o ≡ Err f
 
--- the bodies see σ, and the entries σ' become ω
-abbrev pub ProcsSays : List Node → Part → Entries → Entries → Result (Unit {0}) Fault → Entries → Type 0
-ProcsSays table p σ σ' r ω =
-    (ps : Procs) (ρ τ : Names) → IsProcs p ps → Looks table σ ρ → Looks table σ' τ → ProcsSaid table r (check_procs ρ [] ps τ) ω
+-- the bodies see from the position h, and afterwards b sees the procedures
+abbrev pub ProcsSays : Checker → Part → ℕ → Result (Unit {0}) Fault → Checker → Type 0
+ProcsSays a p h r b =
+    (ps : Procs) (ρ τ : Names) → IsProcs p ps → SeesFrom a h ρ → Sees a τ → ProcsSaid b r (check_procs ρ [] ps τ)
 
 -- what a refusal leaves is open
-abbrev pub KeptIf : {X : Type 0} → Result X Fault → Scope Entry → Scope Entry → Type 0
+abbrev pub KeptIf : {X : Type 0} → Result X Fault → Checker → Checker → Type 0
 KeptIf (Ok x) a b = Kept a b
 KeptIf (Err f) a b = Unit {0}
 
-abbrev pub GrownIf : {X : Type 0} → Result X Fault → Scope Entry → Scope Entry → ℕ → Type 0
+abbrev pub GrownIf : {X : Type 0} → Result X Fault → Checker → Checker → ℕ → Type 0
 GrownIf (Ok x) a b d = Grown a b d
 GrownIf (Err f) a b d = Unit {0}
 

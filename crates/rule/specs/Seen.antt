@@ -7,7 +7,7 @@ use Rattle.language.specs.Table.{type_of}
 use Rattle.language.specs.Sight.{Sight, look}
 use Rattle.language.specs.Names as N
 use Rattle.scope.specs.Sight.{in_sight}
-use Rattle.scope.specs.declared.Scope.{Scope}
+use Rattle.rule.specs.declared.checker.Checker.{Checker}
 use Rattle.rule.specs.declared.entries.Routine.{Routine}
 use Rattle.rule.specs.declared.entries.Entry.{Entry}
 use Rattle.rule.specs.declared.entries.Entry.TheVariants.{Variable, Procedure, Hidden}
@@ -39,11 +39,22 @@ pub record Looks (table : List Node) (σ : List (ℕ × Entry)) (ρ : Names) : T
   pub says : (m : ℕ) → seen table (look m σ) ≡ look m ρ
   pub stands : (m : ℕ) → Stands table (look m σ)
 
-abbrev pub sight : Scope Entry → List (ℕ × Entry)
-sight sc = in_sight sc.records.now sc.head
+-- what is in sight from a position
+abbrev pub sight_from : Checker → ℕ → List (ℕ × Entry)
+sight_from k h = in_sight k.scope.records.now h
 
-abbrev pub room : Scope Entry → ℕ
-room sc = length sc.records.now
+abbrev pub sight : Checker → List (ℕ × Entry)
+sight k = sight_from k k.scope.head
+
+-- what is in sight agrees, or what is in sight from a position
+abbrev pub Sees : Checker → Names → Type 0
+Sees k ρ = Looks k.table.now (sight k) ρ
+
+abbrev pub SeesFrom : Checker → ℕ → Names → Type 0
+SeesFrom k h ρ = Looks k.table.now (sight_from k h) ρ
+
+abbrev pub room : Checker → ℕ
+room k = length k.scope.records.now
 
 -- what was found of a procedure
 abbrev pub RoutineSaid : List Node → Result Routine Fault → Result (List Scalar × ℕ) Fault → Type 0
@@ -51,29 +62,33 @@ RoutineSaid table (Ok q) o = (o ≡ Ok (types_in (take q.count (drop q.first tab
 RoutineSaid table (Err f) o = o ≡ Err f
 
 -- b is a with d records more, and what a had in sight can still be seen from there
-pub record Grown (a b : Scope Entry) (d : ℕ) : Type 0 where
-  pub top : b.top ≡ a.top + d
+pub record Grown (a b : Checker) (d : ℕ) : Type 0 where
+  pub table : b.table.now ≡ a.table.now
+  pub top : b.scope.top ≡ a.scope.top + d
   pub long : room b ≡ room a
-  pub older : (h : ℕ) → h ≤ a.top → in_sight b.records.now h ≡ in_sight a.records.now h
+  pub older : (h : ℕ) → h ≤ a.scope.top → sight_from b h ≡ sight_from a h
 
 -- b is a, seen from the position h
-pub record Turned (a b : Scope Entry) (h : ℕ) : Type 0 where
-  pub records : b.records.now ≡ a.records.now
-  pub top : b.top ≡ a.top
-  pub head : b.head ≡ h
+pub record Turned (a b : Checker) (h : ℕ) : Type 0 where
+  pub table : b.table.now ≡ a.table.now
+  pub records : b.scope.records.now ≡ a.scope.records.now
+  pub top : b.scope.top ≡ a.scope.top
+  pub head : b.scope.head ≡ h
 
 -- b has what a has, up to the record t, seen from the position h
-pub record Returned (a b : Scope Entry) (t h : ℕ) : Type 0 where
-  pub records : b.records.now ≡ a.records.now
-  pub top : b.top ≡ t
-  pub head : b.head ≡ h
+pub record Returned (a b : Checker) (t h : ℕ) : Type 0 where
+  pub table : b.table.now ≡ a.table.now
+  pub records : b.scope.records.now ≡ a.scope.records.now
+  pub top : b.scope.top ≡ t
+  pub head : b.scope.head ≡ h
 
--- b is as a was
-pub record Kept (a b : Scope Entry) : Type 0 where
-  pub top : b.top ≡ a.top
-  pub head : b.head ≡ a.head
+-- b sees what a sees
+pub record Kept (a b : Checker) : Type 0 where
+  pub table : b.table.now ≡ a.table.now
+  pub top : b.scope.top ≡ a.scope.top
+  pub head : b.scope.head ≡ a.scope.head
   pub long : room b ≡ room a
-  pub older : (h : ℕ) → h ≤ a.top → in_sight b.records.now h ≡ in_sight a.records.now h
+  pub older : (h : ℕ) → h ≤ a.scope.top → sight_from b h ≡ sight_from a h
 
 -- no procedure in sight needs more than B
 abbrev pub Below : ℕ → N.Entry → Type 0

@@ -4,7 +4,7 @@ use Rattle.language.specs.Tree.{Expr, Com, Procs, Coms, null, assign, if, while,
 use Rattle.rule.specs.declared.parts.Part.{Part}
 use Rattle.rule.specs.declared.forms.ComView.{ComView}
 use Rattle.rule.specs.declared.forms.ComView.TheVariants.{Null, Assign, If, While, Call, Block}
-use Rattle.rule.specs.Pieces.{long, placed, Fine, Inside, IsExpr, IsCom, IsComs, IsProcs}
+use Rattle.rule.specs.Pieces.{long, placed, Inside, IsExpr, IsCom, IsComs, IsProcs}
 use Rattle.rule.specs.Rows.{decls_from, args_from}
 
 -- an assignment to the name m, with the expression in v
@@ -36,14 +36,12 @@ pub record Loops (p t b : Part) (c : Com) : Type 0 where
 
 pub record Calls (p : Part) (m : ℕ) (a : Part) (c : Com) : Type 0 where
   pub is : c ≡ call (placed p) m (args_from a.first a.nodes.now)
-  pub fine : Fine a
   pub sizes : long p ≡ long a + 1
 
 pub record Blocks (p v q r : Part) (c : Com) : Type 0 where
   pub ps : Procs
   pub cs : Coms
   pub is : c ≡ block (placed p) (decls_from v.first v.nodes.now) ps cs
-  pub fine : Fine v
   pub procedures : IsProcs q ps
   pub commands : IsComs r cs
   pub procedures_in : Inside p q

@@ -1,64 +1,44 @@
 // Declarations in a row: a block's variables, or a procedure's formals.
 ghost use Rattle.std.specs.Prelude.{◌≡◌, ◌+◌, ◌≤◌, [], length};
-ghost use Rattle.language.specs.Table.{type_of};
 ghost use Rattle.language.specs.Sight.{member};
 ghost use Rattle.language.specs.Names.{check_decls};
-ghost use Rattle.rule.specs.Pieces.{Fine};
 ghost use Rattle.rule.specs.Seen.{sight, room, Grown};
 ghost use Rattle.rule.specs.Rows.{decls_from, names_of, entered};
 
-use crate::entries::{Entry, enter, refuse};
+use crate::checker::Checker;
+use crate::entries::Entry;
 use crate::parts::Part;
-use language::{Fault, Name, NamesCause, Node, Scalar, same_name};
-use scope::Scope;
-
-// The type that a declaration gives.
-pub(crate) fn type_of(node: Node) -> Scalar
-    ensures given { result ≡ type_of node.value }
-{
-    if node.value == 0 {
-        Scalar::Whole
-    } else {
-        Scalar::Truth
-    }
-}
+use language::{Fault, Name, NamesCause, Node, same_name};
 
 // One of the first `count` nodes has this name.
 fn declared(nodes: &[Node], count: usize, name: Name) -> bool
     requires within { count ≤ length nodes.now }
     ensures found { result ≡ member name (names_of nodes.now count) }
 {
-    let mut left = count;
-    while left > 0 {
-        if same_name(name, nodes[left - 1].name) {
-            return true;
-        }
-        left -= 1;
-    }
-    false
+    nodes[..count].iter().any(|node| same_name(name, node.name))
 }
 
 // Each declaration's name differs from the earlier ones.
 pub(crate) fn check_names(part: Part<'_>) -> Result<(), Fault>
-    requires fine { Fine part }
     ensures says { result ≡ check_decls [] (decls_from part.entry.first part.entry.nodes.now) }
 {
-    for k in 0..part.nodes.len() {
-        if declared(part.nodes, k, part.nodes[k].name) {
-            return Err(refuse(NamesCause::Repeated, part.first + k));
+    for (k, node) in part.nodes.iter().enumerate() {
+        if declared(part.nodes, k, node.name) {
+            return Err(Fault::new(NamesCause::Repeated.into(), part.first + k));
         }
     }
     Ok(())
 }
 
-// Brings the declared variables into sight.
-pub(crate) fn enter_all(nodes: &[Node], scope: &mut Scope<'_, Entry>)
-    requires room { scope.old.top + length nodes.now ≤ room scope.old }
-    ensures sight { sight scope.new ≡ entered nodes.now (sight scope.old) }
-    ensures grown { Grown scope.old scope.new (length nodes.now) }
-{
-    for k in 0..nodes.len() {
-        let node = nodes[k];
-        enter(scope, node.name, Entry::Variable(type_of(node)));
+impl Checker<'_, '_, '_> {
+    // Brings the declared variables into sight.
+    pub(crate) fn enter_all(&mut self, nodes: &[Node])
+        requires room { self.old.scope.top + length nodes.now ≤ room self.old }
+        ensures sight { sight self.new ≡ entered nodes.now (sight self.old) }
+        ensures grown { Grown self.old self.new (length nodes.now) }
+    {
+        for node in nodes {
+            self.enter(node.name, Entry::Variable(node.declared_type()));
+        }
     }
 }

@@ -1,13 +1,14 @@
 // What the check knows of a name in sight.
-ghost use Rattle.std.specs.Prelude.{◌≡◌, ◌<◌, ◌≤◌, List, ◌∷◌};
+ghost use Rattle.std.specs.Prelude.{◌≡◌, ◌<◌, ◌≤◌, ◌∷◌};
 ghost use Rattle.language.specs.Sight.{look};
-ghost use Rattle.language.specs.Names.{as_variable, as_procedure, refusal};
-ghost use Rattle.rule.specs.Seen.{Names as Sights, Looks, sight, room, Grown, Turned, Returned, RoutineSaid};
+ghost use Rattle.language.specs.Names.{as_variable, as_procedure};
+ghost use Rattle.rule.specs.Seen.{Names as Sights, Sees, sight, room, Grown, Turned, Returned, RoutineSaid};
 
-use language::{Fault, Layer, Name, NamesCause, Node, Scalar};
-use scope::{Mark, Scope};
+use crate::checker::Checker;
+use language::{Fault, Name, NamesCause, Scalar};
+use scope::Mark;
 
-// A procedure: the number of its first formal, how many formals it has, and the locations that its body needs.
+// A procedure, by numbers since the table is the caller's: the number of its first formal, how many formals it has, and the locations that its body needs.
 #[derive(Clone, Copy)]
 pub struct Routine {
     pub first: usize,
@@ -23,66 +24,49 @@ pub enum Entry {
     Hidden,
 }
 
-pub(crate) fn refuse(cause: NamesCause, place: usize) -> Fault
-    ensures fault { result ≡ refusal cause place }
-{
-    Fault::new(Layer::Names(cause), place)
-}
-
-// The type of the variable of this name.
-pub(crate) fn variable(scope: &Scope<'_, Entry>, name: Name, place: usize) -> Result<Scalar, Fault>
-    ensures says { (table : List Node) (ρ : Sights) → Looks table (sight scope.now) ρ → result ≡ as_variable place (look name ρ) }
-{
-    match scope.find(name) {
-        Some(Entry::Variable(t)) => Ok(t),
-        _ => Err(refuse(NamesCause::Variable, place)),
+impl Checker<'_, '_, '_> {
+    // The type of the variable of this name.
+    pub(crate) fn variable(&self, name: Name, place: usize) -> Result<Scalar, Fault>
+        ensures says { (ρ : Sights) → Sees self.now ρ → result ≡ as_variable place (look name ρ) }
+    {
+        match self.scope.find(name) {
+            Some(Entry::Variable(t)) => Ok(t),
+            _ => Err(Fault::new(NamesCause::Variable.into(), place)),
+        }
     }
-}
 
-// The procedure of this name.
-pub(crate) fn procedure(
-    scope: &Scope<'_, Entry>,
-    name: Name,
-    place: usize,
-) -> Result<Routine, Fault>
-    ensures says { (table : List Node) (ρ : Sights) → Looks table (sight scope.now) ρ → RoutineSaid table result (as_procedure place (look name ρ)) }
-{
-    match scope.find(name) {
-        Some(Entry::Procedure(found)) => Ok(found),
-        _ => Err(refuse(NamesCause::Procedure, place)),
+    // The procedure of this name.
+    pub(crate) fn procedure(&self, name: Name, place: usize) -> Result<Routine, Fault>
+        ensures says { (ρ : Sights) → Sees self.now ρ → RoutineSaid self.now.table.now result (as_procedure place (look name ρ)) }
+    {
+        match self.scope.find(name) {
+            Some(Entry::Procedure(found)) => Ok(found),
+            _ => Err(Fault::new(NamesCause::Procedure.into(), place)),
+        }
     }
-}
 
-// Puts a name in sight, where there is room.
-pub(crate) fn enter(scope: &mut Scope<'_, Entry>, name: Name, entry: Entry)
-    requires room { scope.old.top < room scope.old }
-    ensures sight { sight scope.new ≡ (name, entry) ∷ sight scope.old }
-    ensures grown { Grown scope.old scope.new 1 }
-{
-    match scope.enter(name, entry) {
-        Ok(()) => {}
-        Err(_) => unreachable(),
+    // Puts a name in sight, where there is room.
+    pub(crate) fn enter(&mut self, name: Name, entry: Entry)
+        requires room { self.old.scope.top < room self.old }
+        ensures sight { sight self.new ≡ (name, entry) ∷ sight self.old }
+        ensures grown { Grown self.old self.new 1 }
+    {
+        self.scope.enter(name, entry).unwrap();
     }
-}
 
-// Sees from a position that is there.
-pub(crate) fn see_from(scope: &mut Scope<'_, Entry>, position: usize)
-    requires there { position ≤ scope.old.top }
-    ensures turned { Turned scope.old scope.new position }
-{
-    match scope.see_from(position) {
-        Ok(()) => {}
-        Err(_) => unreachable(),
+    // Sees from a position that is there.
+    pub(crate) fn see_from(&mut self, position: usize)
+        requires there { position ≤ self.old.scope.top }
+        ensures turned { Turned self.old self.new position }
+    {
+        self.scope.see_from(position).unwrap();
     }
-}
 
-// Goes back to a mark that is there.
-pub(crate) fn back_to(scope: &mut Scope<'_, Entry>, mark: Mark)
-    requires there { mark.top ≤ scope.old.top }
-    ensures returned { Returned scope.old scope.new mark.top mark.head }
-{
-    match scope.back_to(mark) {
-        Ok(()) => {}
-        Err(_) => unreachable(),
+    // Goes back to a mark that is there.
+    pub(crate) fn back_to(&mut self, mark: Mark)
+        requires there { mark.top ≤ self.old.scope.top }
+        ensures returned { Returned self.old self.new mark.top mark.head }
+    {
+        self.scope.back_to(mark).unwrap();
     }
 }

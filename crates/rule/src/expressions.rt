@@ -1,36 +1,40 @@
 // The types of expressions.
-ghost use Rattle.std.specs.Prelude.{◌≡◌, ◌&&◌, List};
+ghost use Rattle.std.specs.Prelude.{◌≡◌, ◌&&◌};
 ghost use Rattle.language.specs.Tree.{Expr};
 ghost use Rattle.language.specs.Results.{asked};
 ghost use Rattle.language.specs.Values.{alike};
 ghost use Rattle.language.specs.Names.{check_expr, refusal};
 ghost use Rattle.language.specs.declared.faults.NamesCause.TheVariants.{Types};
 ghost use Rattle.rule.specs.Pieces.{IsExpr, Halved};
-ghost use Rattle.rule.specs.Seen.{Names as Sights, Looks, sight};
+ghost use Rattle.rule.specs.Seen.{Names as Sights, Sees};
 ghost use Rattle.rule.specs.Shown.{SomeExpr, Shows, Operates};
 
-use crate::entries::{Entry, refuse, variable};
+use crate::checker::Checker;
 use crate::parts::Part;
-use language::{Fault, Kind, Name, NamesCause, Node, Scalar};
-use scope::Scope;
+use language::{Fault, Kind, Name, NamesCause, Scalar};
 
 // What an expression is, with the parts of its operands.
 #[derive(Clone, Copy)]
 pub enum ExprView<'a> {
     Constant(Scalar),
     Read(Name),
-    // the operands, the type that both must have, and the type of the value
-    Operator(Part<'a>, Part<'a>, Scalar, Scalar),
+    // both operands must have the type `wanted`, and the value has the type `gives`
+    Operator {
+        left: Part<'a>,
+        right: Part<'a>,
+        wanted: Scalar,
+        gives: Scalar,
+    },
 }
 
-// Both types are the same.
+// Both types are the same: the question itself, which is asked by `==`.
 pub(crate) fn agree(t: Scalar, u: Scalar, place: usize) -> Result<(), Fault>
     ensures asked { result ≡ asked (alike t u) (refusal Types place) }
 {
-    match (t, u) {
-        (Scalar::Whole, Scalar::Whole) => Ok(()),
-        (Scalar::Truth, Scalar::Truth) => Ok(()),
-        _ => Err(refuse(NamesCause::Types, place)),
+    if t == u {
+        Ok(())
+    } else {
+        Err(Fault::new(NamesCause::Types.into(), place))
     }
 }
 
@@ -46,9 +50,15 @@ fn operator<'a>(part: Part<'a>, wanted: Scalar, gives: Scalar) -> ExprView<'a>
     ensures halves { Operates part.entry result wanted gives }
 {
     let (left, right) = part.halves();
-    ExprView::Operator(left, right, wanted, gives)
+    ExprView::Operator {
+        left,
+        right,
+        wanted,
+        gives,
+    }
 }
 
+#[tactic(auto, using(crate::proofs::ExprShapes::expr_long))]
 fn view<'a>(part: Part<'a>) -> ExprView<'a>
     requires some { SomeExpr part }
     ensures shows { (x : Expr) → IsExpr part.entry x → Shows result part.entry x }
@@ -59,23 +69,32 @@ fn view<'a>(part: Part<'a>) -> ExprView<'a>
         Kind::Read => ExprView::Read(part.last().name),
         Kind::Plus => operator(part, Scalar::Whole, Scalar::Whole),
         Kind::Less => operator(part, Scalar::Whole, Scalar::Truth),
-        _ => operator(part, Scalar::Truth, Scalar::Truth),
+        Kind::Or => operator(part, Scalar::Truth, Scalar::Truth),
+        _ => unreachable(),
     }
 }
 
-// The type of the expression that the part is.
-pub(crate) fn expression(part: Part<'_>, scope: &Scope<'_, Entry>) -> Result<Scalar, Fault>
-    requires some { SomeExpr part }
-    ensures says { (x : Expr) (table : List Node) (ρ : Sights) → IsExpr part.entry x → Looks table (sight scope.now) ρ → result ≡ check_expr ρ x }
-{
-    match view(part) {
-        ExprView::Constant(t) => Ok(t),
-        ExprView::Read(name) => variable(scope, name, part.place()),
-        ExprView::Operator(left, right, wanted, gives) => {
-            let t = expression(left, scope)?;
-            let u = expression(right, scope)?;
-            both_are(t, u, wanted, part.place())?;
-            Ok(gives)
+impl Checker<'_, '_, '_> {
+    // The type of the expression that the part is.
+    #[tactic(auto, using(crate::proofs::ExprShapes::expr_long))]
+    pub(crate) fn expression(&self, part: Part<'_>) -> Result<Scalar, Fault>
+        requires some { SomeExpr part }
+        ensures says { (x : Expr) (ρ : Sights) → IsExpr part.entry x → Sees self.now ρ → result ≡ check_expr ρ x }
+    {
+        match view(part) {
+            ExprView::Constant(t) => Ok(t),
+            ExprView::Read(name) => self.variable(name, part.place()),
+            ExprView::Operator {
+                left,
+                right,
+                wanted,
+                gives,
+            } => {
+                let t = self.expression(left)?;
+                let u = self.expression(right)?;
+                both_are(t, u, wanted, part.place())?;
+                Ok(gives)
+            }
         }
     }
 }

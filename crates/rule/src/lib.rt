@@ -2,7 +2,9 @@
 #![tactic(auto)]
 
 mod calls;
+mod checker;
 mod commands;
+mod cutting;
 mod declarations;
 mod entries;
 mod expressions;
@@ -11,4 +13,4 @@ mod parts;
 mod rules;
 
 pub use entries::{Entry, Routine};
-pub use rules::{Rule, check};
+pub use rules::{CheckLists, Rule, check};

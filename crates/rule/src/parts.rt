@@ -1,150 +1,16 @@
 // Parts of a table, each the stretch of one piece: handed on to the check of that piece.
-ghost use Rattle.std.specs.Prelude.{◌≡◌, ℕ, ◌-◌, ◌≤◌, true, is_some, Some};
-ghost use Rattle.language.specs.Kinds.{with_number};
-ghost use Rattle.rule.specs.Pieces.{long, last_node, placed, Cut, Fine, Ended, begins, Halved, Halves, Thirded, Thirds, Lasts, RowEnds, skipped, Blocked, BlockCuts, ProcEnds, ProcCuts};
+ghost use Rattle.std.specs.Prelude.{◌≡◌, ◌+◌, ◌≤◌, length};
 
-use language::{Kind, Node};
+use language::Node;
 
-// Some nodes of a table with the length of the piece that each one ends, and the number of the first of them.
+// Some nodes of a table with the length of the piece that each one ends, and the number of the first of them. Each node
+// has its length, and a number that a table has. The nodes are the caller's, read-only, and the lengths stand in a list
+// that is lent: so they are two slices.
 #[derive(Clone, Copy)]
 pub struct Part<'a> {
     pub nodes: &'a [Node],
     pub lens: &'a [usize],
     pub first: usize,
-}
-
-impl<'a> Part<'a> {
-    // The nodes from `start` to `end`.
-    pub(crate) fn cut(self, start: usize, end: usize) -> Part<'a>
-        requires order { start ≤ end }
-        requires within { end ≤ long self }
-        requires fine { Fine self }
-        ensures cut { Cut self.entry result start end }
-    {
-        Part {
-            nodes: &self.nodes[start..end],
-            lens: &self.lens[start..end],
-            first: self.first + start,
-        }
-    }
-
-    // The node that ends the part.
-    pub(crate) fn last(self) -> Node
-        requires some { 1 ≤ long self }
-        ensures node { result ≡ last_node self.entry }
-    {
-        self.nodes[self.nodes.len() - 1]
-    }
-
-    // The number of that node.
-    pub(crate) fn place(self) -> usize
-        requires some { 1 ≤ long self }
-        requires fine { Fine self }
-        ensures number { result ≡ placed self.entry }
-    {
-        self.first + (self.nodes.len() - 1)
-    }
-
-    // The kind of that node.
-    pub(crate) fn kind(self) -> Kind
-        requires some { 1 ≤ long self }
-        requires known { is_some (with_number (last_node self).kind) ≡ true }
-        ensures kind { with_number (last_node self.entry).kind ≡ Some result }
-    {
-        Kind::from_number(self.last().kind).unwrap()
-    }
-
-    // Where the piece that ends right before `end` begins.
-    pub(crate) fn start_of(self, end: usize) -> usize
-        requires ended { Ended self end }
-        ensures begins { result ≡ begins self.entry end }
-    {
-        end - self.lens[end - 1]
-    }
-
-    // The two pieces in front of the last node.
-    pub(crate) fn halves(self) -> (Part<'a>, Part<'a>)
-        requires halved { Halved self }
-        ensures halves { Halves self.entry result.0 result.1 }
-    {
-        let end = self.nodes.len() - 1;
-        let middle = self.start_of(end);
-        (self.cut(0, middle), self.cut(middle, end))
-    }
-
-    // The three pieces in front of the last node.
-    pub(crate) fn thirds(self) -> (Part<'a>, Part<'a>, Part<'a>)
-        requires thirded { Thirded self }
-        ensures thirds { Thirds self.entry result.0 result.1 result.2 }
-    {
-        let end = self.nodes.len() - 1;
-        let third = self.start_of(end);
-        let second = self.start_of(third);
-        (
-            self.cut(0, second),
-            self.cut(second, third),
-            self.cut(third, end),
-        )
-    }
-
-    // All but the last node.
-    pub(crate) fn body(self) -> Part<'a>
-        requires some { 1 ≤ long self }
-        requires fine { Fine self }
-        ensures cut { Cut self.entry result 0 (long self.entry - 1) }
-    {
-        self.cut(0, self.nodes.len() - 1)
-    }
-
-    // The piece that ends the part, after what stands before it.
-    pub(crate) fn split_last(self) -> (Part<'a>, Part<'a>)
-        requires ended { Ended self (long self) }
-        ensures lasts { Lasts self.entry result.0 result.1 }
-    {
-        let end = self.nodes.len();
-        let start = self.start_of(end);
-        (self.cut(0, start), self.cut(start, end))
-    }
-
-    // Where the last `count` pieces that end right before `end` begin.
-    fn skip(self, end: usize, count: u16) -> usize
-        requires row { RowEnds self count end }
-        ensures skipped { result ≡ skipped self.entry count end }
-    {
-        let mut start = end;
-        let mut left = count;
-        while left > 0 {
-            start = self.start_of(start);
-            left -= 1;
-        }
-        start
-    }
-
-    // The variables, the procedures and the commands of a block.
-    pub(crate) fn block_parts(self) -> (Part<'a>, Part<'a>, Part<'a>)
-        requires blocked { Blocked self }
-        ensures cuts { BlockCuts self.entry result.0 result.1 result.2 }
-    {
-        let node = self.last();
-        let variables = node.a as usize;
-        let end = self.nodes.len() - 1;
-        let commands = self.skip(end, node.c);
-        (
-            self.cut(0, variables),
-            self.cut(variables, commands),
-            self.cut(commands, end),
-        )
-    }
-
-    // The formals and the body of a procedure.
-    pub(crate) fn procedure_parts(self) -> (Part<'a>, Part<'a>)
-        requires ends { ProcEnds self }
-        ensures cuts { ProcCuts self.entry result.0 result.1 }
-    {
-        let formals = self.last().a as usize;
-        (
-            self.cut(0, formals),
-            self.cut(formals, self.nodes.len() - 1),
-        )
-    }
+    ghost a_length_each: { length lens.now ≡ length nodes.now },
+    ghost numbered: { first + length nodes.now ≤ 4096 },
 }

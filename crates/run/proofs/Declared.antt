@@ -78,11 +78,3 @@ declared_all ns ls vs d n k rs m p rs₁ m₁ p₁ o h h' e l b =
     let same : k ≡ n = omega arith in
     let x = rw (back_all ls e n k h) at (o.recorded e l b) in
     rw same at x
-
-pub head_none : (m p n r : ℕ) → n ≡ 0 → r ≡ p → r ≡ head m p n
-head_none m p zero r e q = q
-head_none m p (suc n) r e q = absurd (omega arith)
-
-pub head_some : (m p n r : ℕ) → (n ≡ 0 → ⊥) → r ≡ m + n → r ≡ head m p n
-head_some m p zero r e q = absurd (e refl)
-head_some m p (suc n) r e q = q

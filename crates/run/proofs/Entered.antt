@@ -18,7 +18,7 @@ use Rattle.run.proofs.Steps.{group, lift_releasing, give_first}
 use Rattle.run.proofs.Sights.{env_same, locations_same, weights_same, same_less, same_then, linked_same}
 use Rattle.run.proofs.Opens.{variables_same}
 use Rattle.run.proofs.Declared.{head_low}
-use Rattle.run.proofs.Recorded.{variables_env, variables_weigh, variables_ok_more, ok_same_below, procedures_env, procedures_weigh, procedures_ok_more, procedures_linked}
+use Rattle.run.proofs.Recorded.{variables_at, variables_env, variables_weigh, variables_ok_more, ok_same_below, procedures_env, procedures_weigh, procedures_ok_more, procedures_linked}
 use Rattle.run.proofs.Goods.{good_weaker, good_same, good_pushed, coms_count, procs_count}
 use Rattle.run.proofs.Frames.{all_mono, all_same}
 
@@ -84,7 +84,7 @@ block_goes L ns ls N rs rs₁ rs₂ P P' fs f σ σ' u u' p₁ sh g e q k v len�
     let plow : p' ≤ M + b = head_low M p₁ b within in
     let under : Good ns ls rs₂ N (M + b) fs = good_weaker ns ls rs₂ N m (M + b) fs (omega arith) (good_same ns ls rs rs₂ N m m fs len same (omega arith) g'.1) in
     let last : GoodFrame ns ls rs₂ N (suc (length fs)) (M + b) (end_frame i p' (M + b)) =
-    record { at = lt; top = omega arith; position = plow; linked = linked₂; procedures = ok₂; ok = record { block = k; count = omega arith } } in
+    record { at = lt; top = omega arith; position = plow; linked = linked₂; procedures = ok₂; ok = record { block = k; count = omega arith; variables = λ j h h'. variables_at ns ls s rs₂ m f.position a p₁ variables₂ j (omega arith) (omega arith) } } in
     let all : Good ns ls rs₂ N (M + b) (pushed ls Run p' (M + b) i c (end_frame i p' (M + b) ∷ fs)) =
     good_pushed ns ls rs₂ N p' (M + b) lo i c (end_frame i p' (M + b) ∷ fs) w.commands plow linked₂ ok₂ (omega arith) (omega arith) (omega arith) (last, under) in
     record {

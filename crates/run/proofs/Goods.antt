@@ -1,16 +1,14 @@
 -- Frames with room for what they can still do, and what keeps them so.
-use Rattle.std.proofs.Common.{◌≡◌, ℕ, zero, suc, ◌+◌, ◌-◌, ◌<◌, ◌≤◌, List, [], ◌∷◌, length, sym, ap, ◌∙◌, arith}
+use Rattle.std.proofs.Common.{◌≡◌, ℕ, zero, suc, ◌+◌, ◌-◌, ◌<◌, ◌≤◌, List, [], ◌∷◌, length, arith}
 use Rattle.language.specs.declared.tables.Node.{Node}
+use Rattle.table.specs.Stretches.{node_at}
 use Rattle.table.specs.Walk.{start_at}
 use Rattle.run.specs.declared.levels.Frame.{Frame}
-use Rattle.run.specs.declared.levels.Level.{Level}
 use Rattle.run.specs.declared.levels.State.{State}
 use Rattle.run.specs.declared.levels.State.TheVariants.{Run, End}
 use Rattle.run.specs.Names.{Records, Linked, SameBelow, weights}
-use Rattle.run.specs.Levels.{frames}
 use Rattle.run.specs.Shapes.{back, ComsBefore, ProcsBefore}
 use Rattle.run.specs.Machine.{pushed, run_frame, Good, GoodFrame, FrameOk, ProceduresOk}
-use Rattle.run.proofs.Stacks.{newest_length}
 use Rattle.run.proofs.Sights.{linked_same, weights_same}
 use Rattle.run.proofs.Recorded.{ok_same_below}
 
@@ -22,10 +20,12 @@ good_weaker ns ls rs N hi hi' (f ∷ fs) k g =
       g.1,
     )
 
-ok_same : (ns : List Node) (ls : List ℕ) (rs rs' : Records) (N d : ℕ) (f : Frame) (s : State) → length rs' ≡ length rs → weights ls rs' f.position ≡ weights ls rs f.position
+ok_same : (ns : List Node) (ls : List ℕ) (rs rs' : Records) (N d m : ℕ) (f : Frame) (s : State) → SameBelow rs rs' m → f.top ≤ m → length rs' ≡ length rs → weights ls rs' f.position ≡ weights ls rs f.position
     → FrameOk ns ls rs N d f s → FrameOk ns ls rs' N d f s
-ok_same ns ls rs rs' N d f Run e w k = record { command = k.command; records = rw (e, w) k.records; levels = rw w k.levels }
-ok_same ns ls rs rs' N d f End e w k = k
+ok_same ns ls rs rs' N d m f Run q h e w k = record { command = k.command; records = rw (e, w) k.records; levels = rw w k.levels }
+ok_same ns ls rs rs' N d m f End q h e w k =
+    let c : (node_at ns f.at).a + (node_at ns f.at).b ≤ f.top = k.count in
+    record { block = k.block; count = c; variables = λ j low lt. rw (q j (omega arith)) (k.variables j low lt) }
 
 pub good_same : (ns : List Node) (ls : List ℕ) (rs rs' : Records) (N m hi : ℕ) (fs : List Frame) → length rs' ≡ length rs → SameBelow rs rs' m → hi ≤ m
     → Good ns ls rs N hi fs → Good ns ls rs' N hi fs
@@ -35,12 +35,9 @@ good_same ns ls rs rs' N m hi (f ∷ fs) e q h g =
     let le : f.top ≤ m = omega arith in
     let en : f.position ≤ f.top = g.0.position in
     let w : weights ls rs' f.position ≡ weights ls rs f.position = weights_same ls rs rs' m f.position q (omega arith) in (
-      record { at = g.0.at; top = b; position = en; linked = linked_same rs rs' m f.top q le g.0.linked; procedures = ok_same_below ns ls rs rs' m f.top q le g.0.linked g.0.procedures; ok = ok_same ns ls rs rs' N (suc (length fs)) f f.state e w g.0.ok },
+      record { at = g.0.at; top = b; position = en; linked = linked_same rs rs' m f.top q le g.0.linked; procedures = ok_same_below ns ls rs rs' m f.top q le g.0.linked g.0.procedures; ok = ok_same ns ls rs rs' N (suc (length fs)) m f f.state q le e w g.0.ok },
       good_same ns ls rs rs' N m f.top fs e q le g.1,
     )
-
-pub depth_is : (vs : List Level) (gs : List Frame) (f : Frame) (d : ℕ) → frames vs d ≡ f ∷ gs → suc (length gs) ≡ d
-depth_is vs gs f d e = sym (ap length e) ∙ newest_length _ d
 
 pub coms_count : (ns : List Node) (ls : List ℕ) (lo e n : ℕ) → ComsBefore ns ls lo e n → lo + n ≤ e
 coms_count ns ls lo e zero c = omega arith

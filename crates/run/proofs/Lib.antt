@@ -1,6 +1,8 @@
 pub mod Forests
 pub mod Standing
 pub mod Stacks
+pub mod Slices
+pub mod Changes
 pub mod Walks
 pub mod Sights
 pub mod Steps

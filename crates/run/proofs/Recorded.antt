@@ -8,7 +8,7 @@ use Rattle.language.specs.Runs.{procedures}
 use Rattle.table.specs.Stretches.{node_at}
 use Rattle.table.specs.Walk.{start_at}
 use Rattle.run.specs.declared.bindings.Binding.TheVariants.{Place, Procedure}
-use Rattle.run.specs.Names.{Records, record_at, Linked, SameBelow, weights, weight, locations_from, location_of}
+use Rattle.run.specs.Names.{VariablesAt, Records, record_at, Linked, SameBelow, weights, weight, locations_from, location_of}
 use Rattle.run.specs.Shapes.{Forest, back, row, procs_at, decls_at, decl_at, ProcsBefore}
 use Rattle.run.specs.Machine.{ProceduresIn, VariablesIn, head, env_at, bound_of, ProceduresOk, ProcedureOk}
 use Rattle.run.proofs.Sights.{env_step, weights_step, weights_same, length_locations}
@@ -120,6 +120,15 @@ module _ (ns : List Node) (ls : List ℕ) (s : ℕ) (rs : Records) (m p : ℕ) w
       let no : weight ls (record_at rs (m + n)).entry ≡ 0 = ap (weight ls) d.2 in
       let ih : weights ls rs (record_at rs (m + n)).next ≡ weights ls rs p = variables_weigh n (record_at rs (m + n)).next (λ k lt. l k (omega arith)) d.3 in
       rw d.0 (omega arith)
+
+  pub variables_at : (n p' : ℕ) → VariablesIn ns s rs m p n p' → VariablesAt rs m n
+  unfolding VariablesIn
+  variables_at zero p' d k low lt = absurd (omega arith)
+  variables_at (suc n) p' d k low lt = go (eqb k (m + n)) refl (variables_at n (record_at rs (m + n)).next d.3 k low)
+    where
+      go : (b : Bool) → eqb k (m + n) ≡ b → (k < m + n → (record_at rs k).entry ≡ Place (location_of (record_at rs k).entry)) → (record_at rs k).entry ≡ Place (location_of (record_at rs k).entry)
+      go true y x = let z : k ≡ m + n = eqb-true k (m + n) y in rw z d.2
+      go false y x = let z : k ≢ m + n = eqb-false k (m + n) y in x (omega arith)
 
   pub variables_ok_more : (n p' : ℕ) → VariablesIn ns s rs m p n p' → ProceduresOk ns ls rs m → ProceduresOk ns ls rs (m + n)
   unfolding VariablesIn

@@ -12,7 +12,7 @@ use Rattle.scope.specs.Calls.{entered}
 use Rattle.scope.proofs.Chains.{sight_step, sight_alike, look_here, look_on, look_none, latest_at}
 use Rattle.run.specs.declared.bindings.Binding.{Binding}
 use Rattle.run.specs.declared.bindings.Binding.TheVariants.{Place, Procedure}
-use Rattle.run.specs.Names.{Records, record_at, walk, found, Linked, SameBelow, locations_from, location_of, location_bound, no_record, weights, weigh_in, weight}
+use Rattle.run.specs.Names.{Records, record_at, walk, found, Linked, SameBelow, locations_from, no_record, weights, weigh_in, weight}
 use Rattle.run.specs.Shapes.{Forest}
 use Rattle.run.specs.Machine.{env_at, env_in, bound_of}
 use Rattle.run.proofs.Walks.{walk_more, walk_step, walk_same}
@@ -45,12 +45,15 @@ found_on rs p m h n l e = look_on m _ _ (in_sight rs p) (same m (record_at rs (p
 pub found_none : (rs : Records) (p m : ℕ) → p ≤ 0 → found rs p m ≡ None
 found_none rs p m h = look_none m rs p h
 
--- the location that is recorded at a position
-pub entered_at : (rs : Records) (top k : ℕ) → k < top → top ≤ length rs → Down rs top → location_bound (entered rs top (k + 1)) ≡ location_of (record_at rs k).entry
+pub same_place : {l k : ℕ} → Some (Place l) ≡ Some (Place k) → l ≡ k
+same_place e = cc
+
+-- what is recorded at a position
+pub entered_at : (rs : Records) (top k : ℕ) → k < top → top ≤ length rs → Down rs top → entered rs top (k + 1) ≡ Some (record_at rs k).entry
 entered_at rs top k lt h d =
     let e : k + 1 - 1 ≡ k = omega arith in
     let r : record_at rs k ≡ get_or rs (k + 1 - 1) (record_at rs k) = rw e (get_or_is rs k (omega arith)) in
-    ap location_bound (latest_at rs (k + 1) top (record_at rs k) (omega arith) (omega arith) h d r)
+    latest_at rs (k + 1) top (record_at rs k) (omega arith) (omega arith) h d r
   where
     get_or_is : (xs : Records) (j : ℕ) → j < length xs → record_at xs j ≡ get_or xs j (record_at xs j)
     get_or_is [] j l = absurd (omega arith)

@@ -1,11 +1,15 @@
 -- Frames and values on the levels of a stack.
-use Rattle.std.proofs.Common.{◌≡◌, ℕ, zero, suc, ◌+◌, ◌-◌, ◌<◌, ◌≤◌, ◌≢◌, List, [], ◌∷◌, length, set, Err, Result, refl, ap, ◌∙◌, ap₂, add-one, arith, get_or-set_other, get_or-set_same}
+use Rattle.std.proofs.Common.{◌≡◌, ℕ, zero, suc, ◌+◌, ◌-◌, ◌<◌, ◌≤◌, ◌≢◌, List, [], ◌∷◌, length, set, Some, Err, Result, refl, ap, ◌∙◌, ap₂, add-one, arith, get_or-set_other, get_or-set_same}
+use Rattle.language.specs.declared.tables.Node.{Node}
+use Rattle.language.specs.declared.tables.Kind.{Kind}
+use Rattle.language.specs.declared.tables.Kind.TheVariants.{Truth, Whole, Read, Plus, Less, Or, Null, Assign, If, While, Call, Argument, Decl, Proc, Block}
+use Rattle.language.specs.Memory.{Memory}
 use Rattle.language.specs.declared.values.Value.{Value}
 use Rattle.language.specs.declared.values.Stop.{Stop}
 use Rattle.language.specs.declared.values.Stop.TheVariants.{Stuck}
 use Rattle.run.specs.declared.levels.Level.{Level}
 use Rattle.run.specs.Levels.{newest_first, frames, values, level_at, no_level}
-use Rattle.run.specs.Evaluation.{operated}
+use Rattle.run.specs.Evaluation.{Locator, operated, operator_value, node_done}
 
 pub newest_same : {A : Type 0} (f g : ℕ → A) (n : ℕ) → ((k : ℕ) → k < n → f k ≡ g k) → newest_first f n ≡ newest_first g n
 unfolding newest_first
@@ -47,15 +51,8 @@ values_push vs d h x lt =
     ∙ ap₂ ◌∷◌ (ap (λ (y : Level). y.value) (get_or-set_same vs (d + h) x no_level lt))
     (newest_same _ _ h (λ j jl. let ne : d + j ≢ d + h = omega arith in ap (λ (y : Level). y.value) (get_or-set_other vs (d + h) (d + j) x no_level ne)))
 
-pub values_two : (vs : List Level) (d h : ℕ) → 2 ≤ h
-    → values vs d h ≡ (level_at vs (d + h - 1)).value ∷ (level_at vs (d + h - 2)).value ∷ values vs d (h - 2)
-values_two vs d h le =
-    let a : d + (h - 1) ≡ d + h - 1 = omega arith in
-    let b : d + (h - 1 - 1) ≡ d + h - 2 = omega arith in
-    let c : h - 1 - 1 ≡ h - 2 = omega arith in
-    let one = newest_top (λ k. (level_at vs (d + k)).value) h (omega arith) in
-    let two = newest_top (λ k. (level_at vs (d + k)).value) (h - 1) (omega arith) in
-    rw (a, b, c) at (one ∙ ap (λ (xs : List Value). (level_at vs (d + (h - 1))).value ∷ xs) two)
+pub values_top : (vs : List Level) (d h : ℕ) → 0 < h → values vs d h ≡ (level_at vs (d + (h - 1))).value ∷ values vs d (h - 1)
+values_top vs d h lt = newest_top _ h lt
 
 -- an operator with fewer than two values
 pub operated_few : (f : Value → Value → Result Value Stop) (vs : List Level) (d h : ℕ) → h < 2 → operated f (values vs d h) ≡ Err Stuck
@@ -63,3 +60,28 @@ unfolding newest_first
 operated_few f vs d zero l = refl
 operated_few f vs d (suc zero) l = refl
 operated_few f vs d (suc (suc h)) l = absurd (omega arith)
+
+-- a node that is no operator makes nothing of values
+stuck : (vs : List Value) → Err Stuck ≡ operated (λ v w. Err Stuck) vs
+stuck [] = refl
+stuck (w ∷ []) = refl
+stuck (w ∷ v ∷ vs) = refl
+
+-- a node that takes no value as it stands is worked out as an operator
+pub as_operator : (ρ : Locator) (σ : Memory) (k : Kind) (i : ℕ) (n : Node) (vs : List Value) → (k ≡ Truth → ⊥) → (k ≡ Whole → ⊥) → (k ≡ Read → ⊥)
+    → node_done ρ σ (Some k) i n vs ≡ operated (operator_value k i) vs
+as_operator ρ σ Truth i n vs t w r = absurd (t refl)
+as_operator ρ σ Whole i n vs t w r = absurd (w refl)
+as_operator ρ σ Read i n vs t w r = absurd (r refl)
+as_operator ρ σ Plus i n vs t w r = refl
+as_operator ρ σ Less i n vs t w r = refl
+as_operator ρ σ Or i n vs t w r = refl
+as_operator ρ σ Null i n vs t w r = stuck vs
+as_operator ρ σ Assign i n vs t w r = stuck vs
+as_operator ρ σ If i n vs t w r = stuck vs
+as_operator ρ σ While i n vs t w r = stuck vs
+as_operator ρ σ Call i n vs t w r = stuck vs
+as_operator ρ σ Argument i n vs t w r = stuck vs
+as_operator ρ σ Decl i n vs t w r = stuck vs
+as_operator ρ σ Proc i n vs t w r = stuck vs
+as_operator ρ σ Block i n vs t w r = stuck vs

@@ -1,14 +1,20 @@
 -- Frames left by a run that is stopped, and whole runs.
-use Rattle.std.proofs.Common.{◌≡◌, ℕ, ◌+◌, ◌-◌, ◌*◌, ◌<◌, ◌≤◌, ◌⊎◌, List, [], ◌∷◌, length, Some, None, Ok, Err, Option, Result, refl, inl, inr, mul-le-mul_right, add-mul, arith}
+use Rattle.std.proofs.Common.{◌≡◌, ℕ, suc, ◌+◌, ◌-◌, ◌*◌, ◌<◌, ◌≤◌, ◌⊎◌, List, [], ◌∷◌, length, Some, None, Ok, Err, Option, Result, refl, ap, ◌∙◌, inl, inr, mul-le-mul_right, add-mul, arith}
 use Rattle.language.specs.declared.tables.Node.{Node}
 use Rattle.language.specs.declared.values.Stop.{Stop}
 use Rattle.language.specs.Memory.{Memory}
 use Rattle.language.specs.Runs.{ended, stopped, does, release_all}
 use Rattle.run.specs.declared.levels.Frame.{Frame}
+use Rattle.run.specs.declared.levels.Level.{Level}
+use Rattle.run.specs.declared.levels.Stack.{Stack}
+use Rattle.run.specs.declared.runner.Runner.{Runner}
+use Rattle.run.specs.Levels.{frames}
+use Rattle.run.specs.Running.{KeepsTable, frames_of, deepest_of}
 use Rattle.run.specs.declared.levels.State.TheVariants.{Run, End}
 use Rattle.run.specs.Names.{Records, Linked, weights}
 use Rattle.run.specs.Shapes.{kind_at, ComKind}
-use Rattle.run.specs.Machine.{outcome, env_at, run_frame, Good, GoodFrame, ProceduresOk, Went, Ran, block_locations}
+use Rattle.run.specs.Machine.{outcome, env_at, run_frame, Good, GoodFrame, ProceduresOk, Went, Steps, Ran, block_locations}
+use Rattle.run.proofs.Stacks.{newest_length}
 use Rattle.run.proofs.Steps.{give_first}
 use Rattle.run.proofs.Frames.{went_on, went_then, stop_after, end_stopping, run_stopping}
 
@@ -60,3 +66,32 @@ falls n u u' d d' h (inl l) =
     let m : (u' + 1) * (n + 1) ≤ u * (n + 1) = mul-le-mul_right (n + 1) (omega arith) in
     omega (arith, add-mul u' 1 (n + 1))
 falls n u u' d d' h (inr e) = rw e.0 (omega (arith, e.1))
+
+-- a step of the frame that was taken off
+module _ (L L' : ℕ) (r₀ r r' : Runner) (s : Stack) (f : Frame) (rs₀ : Records) (fs₀ : List Frame) (σ₀ : Memory) (u₀ : ℕ) (σ σ' : Memory)
+    (w : Went L r₀.table.nodes.now r₀.table.lens.now (deepest_of r₀) rs₀ fs₀ None σ₀ u₀ r.scope.records.now r.scope.top (frames_of r) None σ r.units)
+    (k : KeepsTable r₀ r) (same : L' ≡ L) (e : frames_of r ≡ f ∷ frames s.levels.now s.depth) (l : s.levels.now ≡ r.stack.levels.now) where
+  deep : deepest_of (record r { stack = s }) ≡ deepest_of r₀
+  deep = ap (λ (vs : List Level). length vs) l ∙ k.deepest
+
+  pub step_went : (x : Unit {0}) → Steps L' (record r { stack = s }) f σ r' σ' (Ok x)
+      → Went L r₀.table.nodes.now r₀.table.lens.now (deepest_of r₀) rs₀ fs₀ None σ₀ u₀ r'.scope.records.now r'.scope.top (frames_of r') None σ' r'.units
+  step_went x t =
+      went_then L L' _ _ (deepest_of r₀) (deepest_of (record r { stack = s })) rs₀ fs₀ None σ₀ u₀ r.scope.records.now r.scope.top (f ∷ frames s.levels.now s.depth) None σ r.units
+      _ _ _ _ _ _ (rw e at w) same deep (rw k.table at t.2)
+
+  pub step_stopped : (x : Stop) → Steps L' (record r { stack = s }) f σ r' σ' (Err x)
+      → Went L r₀.table.nodes.now r₀.table.lens.now (deepest_of r₀) rs₀ fs₀ None σ₀ u₀ r'.scope.records.now r'.scope.top (frames_of r') (Some x) σ' 0
+  step_stopped x t =
+      went_then L L' _ _ (deepest_of r₀) (deepest_of (record r { stack = s })) rs₀ fs₀ None σ₀ u₀ r.scope.records.now r.scope.top (f ∷ frames s.levels.now s.depth) None σ r.units
+      _ _ _ _ _ _ (rw e at w) same deep (rw k.table at t)
+
+-- in numbers of frames
+pub fewer : (r r' : Runner) (s : Stack) (f : Frame) (u : ℕ) → r.stack.depth ≡ s.depth + 1
+    → (r'.units < u) ⊎ ((r'.units ≡ u) × (length (frames_of r') < length (f ∷ frames s.levels.now s.depth))) → (r'.units < u) ⊎ ((r'.units ≡ u) × (r'.stack.depth < r.stack.depth))
+fewer r r' s f u d (inl x) = inl x
+fewer r r' s f u d (inr x) =
+    let a : length (frames_of r') ≡ r'.stack.depth = newest_length _ r'.stack.depth in
+    let b : length (frames s.levels.now s.depth) ≡ s.depth = newest_length _ s.depth in
+    let lt : length (frames_of r') < suc (length (frames s.levels.now s.depth)) = x.1 in
+    inr (x.0, omega arith)

@@ -1,5 +1,5 @@
 -- An expression worked out node by node comes to what its tree does.
-use Rattle.std.proofs.Common.{◌≡◌, ℕ, zero, suc, ◌+◌, ◌-◌, ◌<◌, ◌≤◌, Bool, List, [], ◌∷◌, length, Some, None, Ok, Err, Option, Result, sym, refl, ap, ◌∙◌, add-zero, arith}
+use Rattle.std.proofs.Common.{◌≡◌, ℕ, zero, suc, ◌+◌, ◌-◌, ◌<◌, ◌≤◌, Bool, List, [], ◌∷◌, length, Some, None, Ok, Err, Option, Result, sym, refl, ap, ◌∙◌, arith}
 use Rattle.language.specs.declared.tables.Node.{Node}
 use Rattle.language.specs.declared.tables.Kind.{Kind}
 use Rattle.language.specs.declared.tables.Kind.TheVariants.{Truth, Whole, Read, Plus, Less, Or, Null, Assign, If, While, Call, Argument, Decl, Proc, Block}
@@ -17,7 +17,7 @@ use Rattle.language.specs.Runs.{Env, give, ◌>>=◌, value, test, located, fetc
 use Rattle.table.specs.Stretches.{node_at}
 use Rattle.table.specs.Walk.{start_at}
 use Rattle.run.specs.declared.levels.Level.{Level}
-use Rattle.run.specs.Levels.{newest_first, values, level_at}
+use Rattle.run.specs.Levels.{newest_first, values, PoppedValue}
 use Rattle.run.specs.Evaluation.{Locator, node_done, nodes_done, only, evaluated}
 use Rattle.run.specs.Shapes.{kind_at, ExprKind, Shaped, Trees, Forest, PairShape}
 use Rattle.run.specs.Machine.{outcome, args_located}
@@ -42,15 +42,19 @@ pub done_all : (ns : List Node) (ρ : Locator) (σ : Memory) (j e : ℕ) (vs : L
 unfolding nodes_done
 done_all ns ρ σ j e vs h = let n : e - j ≡ 0 = omega arith in rw n
 
-pub only_value : (vs : List Level) (d h : ℕ) → h ≡ 1 → only (Ok (values vs d h)) ≡ Ok (level_at vs d).value
+-- the newest value is taken off: it was the only one, or one of more, or there was none
+pub only_value : (vs : List Level) (d h h' : ℕ) (v : Value) → PoppedValue vs d h h' (Some v) → h' ≡ 0 → only (Ok (values vs d h)) ≡ Ok v
 unfolding newest_first
-only_value vs d h e = rw e (ap (λ (k : ℕ). Ok (level_at vs k).value) (add-zero d))
+only_value vs d h h' v p e = rw (p.1, e) refl
 
-pub not_only : (vs : List Level) (d h : ℕ) → (h ≡ 1 → ⊥) → only (Ok (values vs d h)) ≡ Err Stuck
+pub more_values : (vs : List Level) (d h h' : ℕ) (v : Value) → PoppedValue vs d h h' (Some v) → (h' ≡ 0 → ⊥) → only (Ok (values vs d h)) ≡ Err Stuck
 unfolding newest_first
-not_only vs d zero n = refl
-not_only vs d (suc zero) n = absurd (n refl)
-not_only vs d (suc (suc h)) n = refl
+more_values vs d h zero v p n = absurd (n refl)
+more_values vs d h (suc h') v p n = rw p.1 refl
+
+pub no_value : (vs : List Level) (d h h' : ℕ) → PoppedValue vs d h h' None → only (Ok (values vs d h)) ≡ Err Stuck
+unfolding newest_first
+no_value vs d h h' p = rw p.0 refl
 
 assoc : {A B C : Type 0} (r : Result A Stop) (f : A → Result B Stop) (k : B → Result C Stop) → (r >>> f >>> k) ≡ (r >>> λ a. f a >>> k)
 assoc (Ok a) f k = refl

@@ -14,7 +14,7 @@ use Rattle.language.specs.declared.faults.TableCause.TheVariants.{WorkLists}
 use Rattle.language.specs.Check.{long_enough, read_rule}
 use Rattle.language.specs.Faults.{fault}
 use Rattle.language.specs.Laws.{AsAnswered}
-use Rattle.language.specs.Memory.{Memory, put, live}
+use Rattle.language.specs.Memory.{Memory, live}
 use Rattle.language.specs.Names.{check_rule}
 use Rattle.language.specs.Outcome.{outcome_of, told}
 use Rattle.language.specs.Reference.{as_whole, answer, graded}
@@ -25,7 +25,7 @@ use Rattle.language.specs.Table.{refusal, build}
 use Rattle.language.specs.Tree.{Com}
 use Rattle.language.proofs.Sound.{sound_runs}
 use Rattle.rule.specs.Accepted.{Accepted}
-use Rattle.store.specs.Calls.{Taken, read_answer, release_answer}
+use Rattle.store.specs.Calls.{Taken, read_answer}
 use Rattle.store.specs.declared.Full.{Full}
 use Rattle.store.specs.declared.Dead.{Dead}
 use Rattle.table.specs.Measured.{Lengths}
@@ -54,23 +54,6 @@ read_live (Some x) v e = cc
 read_dead : (w : Option Value) (d : Dead) → Err d ≡ read_answer w → w ≡ None
 read_dead None d e = refl
 read_dead (Some x) d e = cc
-
-release_live : (w : Option Value) (x : Unit {0}) → Ok x ≡ release_answer w → (v : Value) × (w ≡ Some v)
-release_live None x e = absurd (let z : ◌≡◌ {A = ℕ} 0 1 = cc in omega arith)
-release_live (Some v) x e = (v, refl)
-
-release_dead : (w : Option Value) (d : Dead) → Err d ≡ release_answer w → w ≡ None
-release_dead None d e = refl
-release_dead (Some v) d e = cc
-
-pub released : (σ σ' : Memory) (l : ℕ) (x : Unit {0}) → Ok x ≡ release_answer (σ l) → σ' ≡ put σ l None → (u : ℕ) → release l σ u (ended tt σ' u)
-released σ σ' l x e q u =
-    let (v, f) = release_live (σ l) x e in
-    inr (v, σ, u, fetched_live σ l v f u, ap (λ (τ : Memory). ended tt τ u) q)
-
-pub not_released : (σ σ' : Memory) (l : ℕ) (d : Dead) → Err d ≡ release_answer (σ l) → σ' ≡ σ → (u : ℕ) → release l σ u (stopped Stuck σ')
-not_released σ σ' l d e q u =
-    inl (Stuck, σ, fetched_dead σ l (release_dead (σ l) d e) u, ap (λ (τ : Memory). stopped Stuck τ) q)
 
 pub released_both : (i o : ℕ) (σ σ₁ σ₂ : Memory) (r : Result (Unit {0}) Stop)
     → ((u : ℕ) → release i σ u (ended tt σ₁ u)) → ((u : ℕ) → release o σ₁ u (outcome r σ₂ u)) → (u : ℕ) → release_all (i ∷ o ∷ []) σ u (outcome r σ₂ u)
@@ -105,6 +88,11 @@ module _ (L i o : ℕ) (c : Com) (σ : Memory) (u : ℕ) where
 module _ (L : ℕ) (c : Com) (step : ℤ) (σ : Memory) (a : ℕ) where
   input_taken : (s : ℤ) (σ₁ : Memory) (i : ℕ) → s ≡ step → Taken L σ σ₁ (whole_value s) (Ok i) → take_one L (whole_value step) σ a (ended i σ₁ a)
   input_taken s σ₁ i t h = rw t at (taken L (whole_value s) σ σ₁ a i h)
+
+  pub no_input : (s : ℤ) (σ₁ : Memory) (e : Full) → s ≡ step → Taken L σ σ₁ (whole_value s) (Err e) → runs L c step σ a (stopped Stuck σ₁)
+  no_input s σ₁ e t h =
+      let h' : Taken L σ σ₁ (whole_value step) (Err e) = subst (λ (z : ℤ). Taken L σ σ₁ (whole_value z) (Err e)) t h in
+      inl (Stuck, σ₁, full L _ σ σ₁ a e h', refl)
 
   pub no_output : (s : ℤ) (σ₁ σ₂ : Memory) (i L₁ : ℕ) (e : Full) → s ≡ step → L₁ ≡ L
       → Taken L σ σ₁ (whole_value s) (Ok i) → Taken L₁ σ₁ σ₂ (whole_value (pos 0)) (Err e) → runs L c step σ a (stopped Stuck σ₂)

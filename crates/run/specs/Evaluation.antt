@@ -1,5 +1,5 @@
 -- An expression worked out node by node on a stack of values, and as a tree.
-use Rattle.std.specs.Prelude.{◌≡◌, ℕ, zero, suc, ◌+◌, ◌-◌, ◌<◌, ◌≤◌, List, [], ◌∷◌, Some, None, Ok, Err, Option, Result}
+use Rattle.std.specs.Prelude.{◌≡◌, ℕ, zero, suc, ◌+◌, ◌<◌, ◌≤◌, List, [], ◌∷◌, Some, None, Ok, Err, Option, Result}
 use Rattle.language.specs.declared.tables.Node.{Node}
 use Rattle.language.specs.declared.tables.Kind.{Kind}
 use Rattle.language.specs.declared.tables.Kind.TheVariants.{Truth, Whole, Read, Plus, Less, Or, Null, Assign, If, While, Call, Argument, Decl, Proc, Block}
@@ -28,6 +28,24 @@ abbrev pub operated : (Value → Value → Result Value Stop) → List Value →
 operated f [] = Err Stuck
 operated f (w ∷ []) = Err Stuck
 operated f (w ∷ v ∷ vs) = f v w >>= λ x. Ok (x ∷ vs)
+
+-- what an operator makes of two values, and nothing of any other kind of node
+abbrev pub operator_value : Kind → ℕ → Value → Value → Result Value Stop
+operator_value Truth i v w = Err Stuck
+operator_value Whole i v w = Err Stuck
+operator_value Read i v w = Err Stuck
+operator_value Plus i v w = sum i v w
+operator_value Less i v w = less_than v w
+operator_value Or i v w = either_true v w
+operator_value Null i v w = Err Stuck
+operator_value Assign i v w = Err Stuck
+operator_value If i v w = Err Stuck
+operator_value While i v w = Err Stuck
+operator_value Call i v w = Err Stuck
+operator_value Argument i v w = Err Stuck
+operator_value Decl i v w = Err Stuck
+operator_value Proc i v w = Err Stuck
+operator_value Block i v w = Err Stuck
 
 abbrev pub node_done : Locator → Memory → Option Kind → ℕ → Node → List Value → Result (List Value) Stop
 node_done ρ σ None i n vs = Err Stuck
@@ -60,15 +78,10 @@ only_one (v ∷ w ∷ vs) = Err Stuck
 abbrev pub only : Result (List Value) Stop → Result Value Stop
 only r = r >>= only_one
 
--- the two newest of h values from the level d on, the older first
-abbrev pub Two : List Level → ℕ → ℕ → Result (Value × Value) Stop → Type 0
-Two vs d h (Ok p) = (2 ≤ h) × (values vs d h ≡ p.1 ∷ p.0 ∷ values vs d (h - 2))
-Two vs d h (Err s) = (h < 2) × (s ≡ Stuck)
-
--- what one node leaves of h values
-abbrev pub NodeDone : Result (List Value) Stop → ℕ → ℕ → List Level → Result ℕ Stop → Type 0
-NodeDone o d h vs (Ok h') = (h' ≤ h + 1) × (o ≡ Ok (values vs d h'))
-NodeDone o d h vs (Err s) = o ≡ Err s
+-- the two newest of h values from the level d on are taken off, the older one first
+abbrev pub Operands : List Level → (d h h' : ℕ) → Result (Value × Value) Stop → Type 0
+Operands vs d h h' (Ok p) = (h' + 2 ≡ h) × (values vs d h ≡ p.1 ∷ p.0 ∷ values vs d h')
+Operands vs d h h' (Err s) = (h < 2) × (s ≡ Stuck)
 
 -- the value of a tree
 abbrev pub evaluated : Locator → Memory → Expr → Result Value Stop
@@ -79,7 +92,7 @@ evaluated ρ σ (plus i e f) = evaluated ρ σ e >>= λ v. evaluated ρ σ f >>=
 evaluated ρ σ (less i e f) = evaluated ρ σ e >>= λ v. evaluated ρ σ f >>= λ w. less_than v w
 evaluated ρ σ (or i e f) = evaluated ρ σ e >>= λ v. evaluated ρ σ f >>= λ w. either_true v w
 
--- the value of one node, and how many of the h newest values it takes off
-abbrev pub NodeValued : Result (List Value) Stop → List Level → ℕ → ℕ → Result (Value × ℕ) Stop → Type 0
-NodeValued o vs d h (Ok p) = (p.1 ≤ h) × (o ≡ Ok (p.0 ∷ values vs d (h - p.1)))
-NodeValued o vs d h (Err s) = o ≡ Err s
+-- the value of one node, with those of the h values on which it stands then
+abbrev pub NodeValued : Result (List Value) Stop → List Level → (d h h' : ℕ) → Result Value Stop → Type 0
+NodeValued o vs d h h' (Ok v) = (h' ≤ h) × (o ≡ Ok (v ∷ values vs d h'))
+NodeValued o vs d h h' (Err s) = o ≡ Err s

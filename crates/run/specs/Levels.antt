@@ -1,5 +1,5 @@
 -- The stack of a run: frames, and above them the values of an expression, each time the newest first.
-use Rattle.std.specs.Prelude.{◌≡◌, ℕ, zero, suc, ◌+◌, false, List, [], ◌∷◌, Ok, Err, Result, slice_index_or}
+use Rattle.std.specs.Prelude.{◌≡◌, ℕ, zero, suc, ◌+◌, false, List, [], ◌∷◌, Some, None, Option, Ok, Err, Result, slice_index_or}
 use Rattle.language.specs.declared.values.Value.{Value}
 use Rattle.language.specs.declared.values.Value.TheVariants.{Truth as truth_value}
 use Rattle.language.specs.declared.values.Stop.{Stop}
@@ -29,6 +29,16 @@ frames vs d = newest_first (λ k. (level_at vs k).frame) d
 -- the values of h levels from d on
 abbrev pub values : List Level → ℕ → ℕ → List Value
 values vs d h = newest_first (λ k. (level_at vs (d + k)).value) h
+
+-- the newest of d frames is taken off, where there is one
+abbrev pub Popped : List Level → (d d' : ℕ) → Option Frame → Type 0
+Popped vs d d' None = (d ≡ 0) × (d' ≡ 0)
+Popped vs d d' (Some f) = (d ≡ d' + 1) × (frames vs d ≡ f ∷ frames vs d')
+
+-- the newest of h values from d on is taken off, where there is one
+abbrev pub PoppedValue : List Level → (d h h' : ℕ) → Option Value → Type 0
+PoppedValue vs d h h' None = (h ≡ 0) × (h' ≡ 0)
+PoppedValue vs d h h' (Some v) = (h ≡ h' + 1) × (values vs d h ≡ v ∷ values vs d h')
 
 -- a unit is taken by the command at the node i
 abbrev pub Ticked : ℕ → ℕ → Result ℕ Stop → Type 0

@@ -1,7 +1,9 @@
 pub mod Shapes
+pub mod Fit
 pub mod Names
 pub mod Levels
 pub mod Evaluation
+pub mod Running
 pub mod Machine
 pub mod Parts
 pub mod Answers

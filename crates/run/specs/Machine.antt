@@ -17,11 +17,12 @@ use Rattle.run.specs.declared.levels.Frame.{Frame}
 use Rattle.run.specs.declared.levels.Level.{Level}
 use Rattle.run.specs.declared.levels.State.{State}
 use Rattle.run.specs.declared.levels.State.TheVariants.{Run, End}
-use Rattle.run.specs.declared.machine.Left.{Left}
-use Rattle.run.specs.Shapes.{kind_at, ComKind, Shaped, Forest, Trees, decls_at, args_at, back}
-use Rattle.run.specs.Names.{Records, record_at, walk, Linked, locations_from, location_of, weights, sees}
-use Rattle.run.specs.Levels.{frames, level_at}
+use Rattle.run.specs.declared.runner.Runner.{Runner}
+use Rattle.run.specs.Shapes.{kind_at, ComKind, Forest, Trees, decls_at, args_at, back}
+use Rattle.run.specs.Names.{Records, record_at, walk, Linked, VariablesAt, locations_from, location_of, weights, sees}
+use Rattle.run.specs.Levels.{level_at}
 use Rattle.run.specs.Evaluation.{Locator}
+use Rattle.run.specs.Running.{frames_of, deepest_of}
 
 -- a result, with the store and the units as they are then
 abbrev pub outcome : {A : Type 0} → Result A Stop → Memory → ℕ → Out A
@@ -156,13 +157,14 @@ pub record RunOk (ns : List Node) (ls : List ℕ) (rs : Records) (deepest depth 
   pub records : f.top + weighs ls rs f.at f.position ≤ length rs
   pub levels : depth + weighs ls rs f.at f.position ≤ deepest
 
-pub record EndOk (ns : List Node) (f : Frame) : Type 0 where
+pub record EndOk (ns : List Node) (rs : Records) (f : Frame) : Type 0 where
   pub block : kind_at ns f.at ≡ Some Block
   pub count : (node_at ns f.at).a + (node_at ns f.at).b ≤ f.top
+  pub variables : VariablesAt rs (f.top - ((node_at ns f.at).a + (node_at ns f.at).b)) (node_at ns f.at).a
 
 abbrev pub FrameOk : List Node → List ℕ → Records → ℕ → ℕ → Frame → State → Type 0
 FrameOk ns ls rs deepest depth f Run = RunOk ns ls rs deepest depth f
-FrameOk ns ls rs deepest depth f End = EndOk ns f
+FrameOk ns ls rs deepest depth f End = EndOk ns rs f
 
 pub record GoodFrame (ns : List Node) (ls : List ℕ) (rs : Records) (deepest depth used : ℕ) (f : Frame) : Type 0 where
   pub at : f.at < length ns
@@ -185,25 +187,27 @@ pub record Went (limit : ℕ) (ns : List Node) (ls : List ℕ) (deepest : ℕ)
   pub means : (F : Forest) → Trees ns ls F → (o : Out (Unit {0}))
       → all_after limit ns ls F rs' fs' (under_way way') σ' u' o → all_after limit ns ls F rs fs (under_way way) σ u o
 
--- the newest frame, of those on the first d levels, is f, and the scope sees what it sees
-pub record Ready (ns : List Node) (ls : List ℕ) (sc : Scope Binding) (vs : List Level) (d : ℕ) (f : Frame) : Type 0 where
-  pub shaped : Shaped ns ls
-  pub some : 0 < d
-  pub within : d ≤ length vs
-  pub newest : frames vs d ≡ f ∷ frames vs (d - 1)
-  pub good : Good ns ls sc.records.now (length vs) f.top (frames vs d)
-  pub top : sc.top ≡ f.top
-  pub position : sc.head ≡ f.position
+-- the frame f was the newest of the runner, which sees what f sees
+pub record Ready (r : Runner) (f : Frame) : Type 0 where
+  pub within : r.stack.depth < deepest_of r
+  pub good : Good r.table.nodes.now r.table.lens.now r.scope.records.now (deepest_of r) f.top (f ∷ frames_of r)
+  pub top : r.scope.top ≡ f.top
+  pub position : r.scope.head ≡ f.position
 
 -- one step: it went on with fewer units, or with as many and fewer frames; or the newest frame was stopped
-abbrev pub Stepped : ℕ → List Node → List ℕ → Scope Binding → List Level → Left → Memory → Scope Binding → List Level → Memory → Result Left Stop → Type 0
-Stepped limit ns ls sc vs l σ sc' vs' σ' (Ok l') =
-    (l'.depth ≤ length vs) × ((l'.units < l.units) ⊎ ((l'.units ≡ l.units) × (l'.depth < l.depth)))
-    × Went limit ns ls (length vs) sc.records.now (frames vs l.depth) None σ l.units
-    sc'.records.now sc'.top (frames vs' l'.depth) None σ' l'.units
-Stepped limit ns ls sc vs l σ sc' vs' σ' (Err s) =
-    Went limit ns ls (length vs) sc.records.now (frames vs l.depth) None σ l.units
-    sc'.records.now sc'.top (frames vs' (l.depth - 1)) (Some s) σ' 0
+abbrev pub Stepped : (limit : ℕ) → List Node → List ℕ → (deepest : ℕ) → Records → List Frame → Memory → (u : ℕ)
+    → Records → (top' : ℕ) → List Frame → Memory → (u' : ℕ) → Result (Unit {0}) Stop → Type 0
+Stepped limit ns ls deepest rs fs σ u rs' top' fs' σ' u' (Ok x) =
+    (length fs' ≤ deepest) × ((u' < u) ⊎ ((u' ≡ u) × (length fs' < length fs)))
+    × Went limit ns ls deepest rs fs None σ u rs' top' fs' None σ' u'
+Stepped limit ns ls deepest rs fs σ u rs' top' fs' σ' u' (Err s) =
+    Went limit ns ls deepest rs fs None σ u rs' top' fs' (Some s) σ' 0
+
+-- the runner takes a step of the frame f, which was its newest
+abbrev pub Steps : (limit : ℕ) → Runner → Frame → Memory → Runner → Memory → Result (Unit {0}) Stop → Type 0
+Steps limit r f σ r' σ' o =
+    Stepped limit r.table.nodes.now r.table.lens.now (deepest_of r) r.scope.records.now (f ∷ frames_of r) σ r.units
+    r'.scope.records.now r'.scope.top (frames_of r') σ' r'.units o
 
 -- the locations of the block that a frame is to end
 abbrev pub block_locations : List Node → Records → Frame → List ℕ

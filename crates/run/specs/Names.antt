@@ -49,9 +49,9 @@ abbrev pub location_of : Binding → ℕ
 location_of (Place l) = l
 location_of (Procedure i p) = 0
 
-abbrev pub location_bound : Option Binding → ℕ
-location_bound None = 0
-location_bound (Some b) = location_of b
+-- the n records from m on are those of variables
+abbrev pub VariablesAt : Records → ℕ → ℕ → Type 0
+VariablesAt rs m n = (k : ℕ) → m ≤ k → k < m + n → (record_at rs k).entry ≡ Place (location_of (record_at rs k).entry)
 
 -- the locations of the n variables recorded from m on
 unfoldable pub locations_from : Records → ℕ → ℕ → List ℕ

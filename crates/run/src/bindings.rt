@@ -1,7 +1,7 @@
 // What the names in sight stand for during a run.
-ghost use Rattle.std.specs.Prelude.{◌≡◌, ◌+◌, ◌<◌, ◌≤◌, length, slice_set};
-ghost use Rattle.scope.specs.Calls.{linked};
-ghost use Rattle.run.specs.Names.{found, sees, as_procedure, location_bound};
+ghost use Rattle.std.specs.Prelude.{◌≡◌, ℕ, Some};
+ghost use Rattle.run.specs.declared.bindings.Binding.TheVariants.{Place};
+ghost use Rattle.run.specs.Names.{found, sees, as_procedure};
 
 use language::{Name, Stop};
 use scope::Scope;
@@ -34,52 +34,13 @@ pub(crate) fn find_procedure(scope: &Scope<'_, Binding>, name: Name) -> Result<(
     }
 }
 
-// The location of a block's variable: what is recorded there is always one.
+// The location of a variable, of what is known to be one.
 pub(crate) fn location_in(binding: Option<Binding>) -> u16
-    ensures location { result ≡ location_bound binding }
+    requires variable { (location : ℕ) × (binding ≡ Some (Place location)) }
+    ensures location { binding ≡ Some (Place result) }
 {
     match binding {
         Some(Binding::Place(location)) => location,
-        _ => 0,
-    }
-}
-
-// Puts a name in sight, where there is room.
-pub(crate) fn enter(scope: &mut Scope<'_, Binding>, name: Name, binding: Binding)
-    requires room { scope.old.top < length scope.old.records.now }
-    ensures records_after { scope.new.records.now ≡ slice_set scope.old.records.now scope.old.top (linked name binding scope.old.head) }
-    ensures top_after { scope.new.top ≡ scope.old.top + 1 }
-    ensures head_after { scope.new.head ≡ scope.old.top + 1 }
-{
-    match scope.enter(name, binding) {
-        Ok(()) => {}
-        Err(_) => unreachable(),
-    }
-}
-
-// Sees from a position that is there.
-pub(crate) fn see_from(scope: &mut Scope<'_, Binding>, position: usize)
-    requires there { position ≤ scope.old.top }
-    ensures records_kept { scope.new.records.now ≡ scope.old.records.now }
-    ensures top_kept { scope.new.top ≡ scope.old.top }
-    ensures head_after { scope.new.head ≡ position }
-{
-    match scope.see_from(position) {
-        Ok(()) => {}
-        Err(_) => unreachable(),
-    }
-}
-
-// Lets go of the records that a frame does not know, and sees what it sees.
-pub(crate) fn restore(scope: &mut Scope<'_, Binding>, top: usize, position: usize)
-    requires low { position ≤ top }
-    requires there { top ≤ scope.old.top }
-    ensures records_kept { scope.new.records.now ≡ scope.old.records.now }
-    ensures top_after { scope.new.top ≡ top }
-    ensures head_after { scope.new.head ≡ position }
-{
-    match scope.restore(top, position) {
-        Ok(()) => {}
-        Err(_) => unreachable(),
+        _ => unreachable(),
     }
 }

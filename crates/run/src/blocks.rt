@@ -1,14 +1,15 @@
-// Blocks and calls: their variables, procedures and commands.
+// Blocks and calls: their variables, procedures and commands. Each function takes the parts of a runner that it
+// uses; as methods of the runner they were no plainer, since each would have to say that the other parts stay. Declarations and
+// arguments are given by number, since what is said of them is said of the table's nodes.
 ghost use Rattle.std.specs.Prelude.{◌≡◌, ℕ, ◌+◌, ◌-◌, ◌<◌, ◌≤◌, length};
 ghost use Rattle.language.specs.Runs.{release_all};
-ghost use Rattle.run.specs.Shapes.{ComsBefore, ProcsBefore, back};
-ghost use Rattle.run.specs.Names.{SameBelow, locations_from};
+ghost use Rattle.run.specs.Shapes.{ComsBefore, ProcsBefore};
+ghost use Rattle.run.specs.Names.{SameBelow, VariablesAt, locations_from};
 ghost use Rattle.run.specs.Levels.{frames};
 ghost use Rattle.run.specs.Machine.{outcome, Opened, BoundTo, pushed, Listed, head, ProceduresIn};
 
-use crate::bindings::{Binding, enter, locate, location_in, see_from};
-use crate::levels::{Frame, Level, push_frame};
-use crate::operators::first_value;
+use crate::bindings::{Binding, locate, location_in};
+use crate::levels::{Frame, Stack};
 use crate::tables::Table;
 use language::Stop;
 use scope::Scope;
@@ -30,17 +31,16 @@ pub(crate) fn open_block<S: Store>(
     ensures top_grown { scope.old.top ≤ scope.new.top }
     ensures opened { Opened (S.Store.bound store.old) table.entry.nodes.now from count scope.old (S.Store.at store.old) scope.new (S.Store.at store.new) result }
 {
-    for k in 0..count {
-        let node = table.node(from + k);
-        match store.take(first_value(node)) {
-            Ok(location) => enter(scope, node.name, Binding::Place(location)),
-            Err(_) => return Err(Stop::Stuck),
-        }
+    for node in &table.nodes[from..from + count] {
+        let first = node.declared_type().first_value();
+        let location = store.take(first)?;
+        scope.enter(node.name, Binding::Place(location)).unwrap();
     }
     Ok(())
 }
 
-// Releases the locations of the records from number `from` to `end`.
+// Releases the locations of the records from number `from` to `end`. By number, since the scope shows its records
+// only one by one; an iterator is no plainer here.
 pub(crate) fn close_block<S: Store>(
     scope: &Scope<'_, Binding>,
     from: usize,
@@ -49,120 +49,108 @@ pub(crate) fn close_block<S: Store>(
 ) -> Result<(), Stop>
     requires order { from ≤ end }
     requires within { end ≤ scope.now.top }
+    requires variables { VariablesAt scope.now.records.now from (end - from) }
     ensures limit_kept { S.Store.bound store.new ≡ S.Store.bound store.old }
     ensures closed { (u : ℕ) → release_all (locations_from scope.now.records.now from (end - from)) (S.Store.at store.old) u (outcome result (S.Store.at store.new) u) }
 {
     for k in from..end {
         let location = location_in(scope.entry_at(k + 1));
-        match store.release(location) {
-            Ok(()) => {}
-            Err(_) => return Err(Stop::Stuck),
-        }
+        store.release(location)?;
     }
     Ok(())
 }
 
-// How many frames there are, and where the pieces begin that were gone over.
-#[derive(Clone, Copy)]
-pub struct Pushed {
-    pub depth: usize,
-    pub end: usize,
-}
-
-// Puts a frame like `frame` for each of the `count` commands that end right before `end`, the first one on top.
-pub(crate) fn push_commands(
-    table: Table<'_>,
-    levels: &mut [Level],
-    mut depth: usize,
-    mut end: usize,
-    count: usize,
-    frame: Frame,
-) -> Pushed
-    requires room { depth + count ≤ length levels.old }
-    requires lens { end ≤ length table.lens.now }
-    requires commands { ComsBefore table.nodes.now table.lens.now 0 end count }
-    ensures depth { result.depth ≡ depth + count }
-    ensures end { result.end ≡ back table.entry.lens.now end count }
-    ensures frames { frames levels.new result.depth ≡ pushed table.entry.lens.now frame.state frame.position frame.top end count (frames levels.old depth) }
-{
-    for _ in 0..count {
-        let at = end - 1;
-        depth = push_frame(levels, depth, Frame { at, ..frame });
-        end = table.start(at);
+impl Stack<'_> {
+    // Puts a frame like `frame` for each of the `count` commands that end right before `end`, the first one on top.
+    pub(crate) fn push_commands(
+        &mut self,
+        table: Table<'_>,
+        mut end: usize,
+        count: usize,
+        frame: Frame,
+    )
+        requires room { self.old.depth + count ≤ length self.old.levels.now }
+        requires inside { end ≤ length table.nodes.now }
+        requires commands { ComsBefore table.nodes.now table.lens.now 0 end count }
+        ensures depth { self.new.depth ≡ self.old.depth + count }
+        ensures frames { frames self.new.levels.now self.new.depth ≡ pushed table.entry.lens.now frame.state frame.position frame.top end count (frames self.old.levels.now self.old.depth) }
+        ensures length_kept { length self.new.levels.now ≡ length self.old.levels.now }
+    {
+        for _ in 0..count {
+            let at = end - 1;
+            self.push(Frame { at, ..frame });
+            end = table.start(at);
+        }
     }
-    Pushed { depth, end }
-}
 
-// Notes the `count` procedures that end right before `end` on the levels from `depth` on, the first one first.
-fn list_procedures(
-    table: Table<'_>,
-    levels: &mut [Level],
-    depth: usize,
-    mut end: usize,
-    count: usize,
-)
-    requires room { depth + count ≤ length levels.old }
-    requires lens { end ≤ length table.lens.now }
-    requires procedures { ProcsBefore table.nodes.now table.lens.now end count }
-    ensures listed { Listed table.entry.lens.now levels.new depth end count }
-    ensures frames_kept { frames levels.new depth ≡ frames levels.old depth }
-{
-    let mut left = count;
-    while left > 0 {
-        left -= 1;
-        let at = end - 1;
-        levels[depth + left].frame.at = at;
-        end = table.start(at);
+    // Notes the `count` procedures that end right before `end` on the levels above the frames, the first one first.
+    // By number: over `iter_mut().rev()` it was tried, and the proof of what the levels hold then did not close.
+    fn list_procedures(&mut self, table: Table<'_>, mut end: usize, count: usize)
+        requires room { self.old.depth + count ≤ length self.old.levels.now }
+        requires inside { end ≤ length table.nodes.now }
+        requires procedures { ProcsBefore table.nodes.now table.lens.now end count }
+        ensures listed { Listed table.entry.lens.now self.new.levels.now self.old.depth end count }
+        ensures depth_kept { self.new.depth ≡ self.old.depth }
+        ensures frames_kept { frames self.new.levels.now self.old.depth ≡ frames self.old.levels.now self.old.depth }
+        ensures length_kept { length self.new.levels.now ≡ length self.old.levels.now }
+    {
+        for left in (0..count).rev() {
+            let at = end - 1;
+            self.levels[self.depth + left].frame.at = at;
+            end = table.start(at);
+        }
     }
 }
 
-// Brings the `count` procedures that are noted from `depth` on into sight: each sees from where the first is entered.
+// Brings the `count` procedures that are noted above the frames into sight: each sees from where the first is
+// entered.
 fn enter_procedures(
     table: Table<'_>,
-    levels: &[Level],
-    depth: usize,
+    stack: &Stack<'_>,
     count: usize,
     scope: &mut Scope<'_, Binding>,
 )
-    requires within { depth + count ≤ length levels.now }
+    requires within { stack.now.depth + count ≤ length stack.now.levels.now }
     requires room { scope.old.top + count ≤ length scope.old.records.now }
-    requires listed { (e : ℕ) × (e ≤ length table.nodes.now) × Listed table.lens.now levels.now depth e count × ProcsBefore table.nodes.now table.lens.now e count }
+    requires listed { (e : ℕ) × (e ≤ length table.nodes.now) × Listed table.lens.now stack.now.levels.now stack.now.depth e count × ProcsBefore table.nodes.now table.lens.now e count }
     ensures older_kept { SameBelow scope.old.records.now scope.new.records.now scope.old.top }
     ensures length_kept { length scope.new.records.now ≡ length scope.old.records.now }
     ensures top_after { scope.new.top ≡ scope.old.top + count }
     ensures head_after { scope.new.head ≡ head scope.old.top scope.old.head count }
-    ensures declared { (e : ℕ) → Listed table.entry.lens.now levels.now depth e count → ProcsBefore table.entry.nodes.now table.entry.lens.now e count → ProceduresIn table.entry.nodes.now table.entry.lens.now scope.new.records.now scope.old.top scope.old.head e count }
+    ensures declared { (e : ℕ) → Listed table.entry.lens.now stack.now.levels.now stack.now.depth e count → ProcsBefore table.entry.nodes.now table.entry.lens.now e count → ProceduresIn table.entry.nodes.now table.entry.lens.now scope.new.records.now scope.old.top scope.old.head e count }
 {
     let seen = scope.position();
-    for k in 0..count {
-        let at = levels[depth + k].frame.at;
-        enter(scope, table.node(at).name, Binding::Procedure(at, seen));
+    for level in &stack.levels[stack.depth..stack.depth + count] {
+        let at = level.frame.at;
+        scope
+            .enter(table.node(at).name, Binding::Procedure(at, seen))
+            .unwrap();
     }
 }
 
-// Brings the `count` procedures that end right before `end` into sight, with the levels from `depth` on to work in.
+// Brings the `count` procedures that end right before `end` into sight, with the levels above the frames to work in.
 pub(crate) fn declare_procedures(
     table: Table<'_>,
-    levels: &mut [Level],
-    depth: usize,
     end: usize,
     count: usize,
     scope: &mut Scope<'_, Binding>,
+    stack: &mut Stack<'_>,
 )
-    requires room { depth + count ≤ length levels.old }
+    requires room { stack.old.depth + count ≤ length stack.old.levels.now }
     requires records { scope.old.top + count ≤ length scope.old.records.now }
-    requires lens { length table.lens.now ≡ length table.nodes.now }
-    requires end { end ≤ length table.nodes.now }
+    requires inside { end ≤ length table.nodes.now }
     requires procedures { ProcsBefore table.nodes.now table.lens.now end count }
-    ensures frames_kept { frames levels.new depth ≡ frames levels.old depth }
+    ensures depth_kept { stack.new.depth ≡ stack.old.depth }
+    ensures frames_kept { frames stack.new.levels.now stack.old.depth ≡ frames stack.old.levels.now stack.old.depth }
+    ensures levels_kept { length stack.new.levels.now ≡ length stack.old.levels.now }
     ensures older_kept { SameBelow scope.old.records.now scope.new.records.now scope.old.top }
     ensures length_kept { length scope.new.records.now ≡ length scope.old.records.now }
     ensures top_after { scope.new.top ≡ scope.old.top + count }
     ensures head_after { scope.new.head ≡ head scope.old.top scope.old.head count }
     ensures declared { ProceduresIn table.entry.nodes.now table.entry.lens.now scope.new.records.now scope.old.top scope.old.head end count }
 {
-    list_procedures(table, levels, depth, end, count);
-    enter_procedures(table, levels, depth, count, scope);
+    stack.list_procedures(table, end, count);
+    enter_procedures(table, stack, count, scope);
 }
 
 // Brings the formals that stand from `formals` on into sight where `seen` is seen, each as the location of its
@@ -186,17 +174,15 @@ pub(crate) fn bind_arguments(
 {
     let caller = scope.position();
     let mut inner = seen;
-    for k in 0..count {
-        see_from(scope, caller);
-        let location = locate(scope, table.node(arguments + k).name)?;
-        see_from(scope, inner);
-        enter(
-            scope,
-            table.node(formals + k).name,
-            Binding::Place(location),
-        );
+    let arguments = &table.nodes[arguments..arguments + count];
+    let formals = &table.nodes[formals..formals + count];
+    for (argument, formal) in arguments.iter().zip(formals) {
+        scope.see_from(caller).unwrap();
+        let location = locate(scope, argument.name)?;
+        scope.see_from(inner).unwrap();
+        scope.enter(formal.name, Binding::Place(location)).unwrap();
         inner = scope.position();
     }
-    see_from(scope, inner);
+    scope.see_from(inner).unwrap();
     Ok(())
 }

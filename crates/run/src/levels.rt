@@ -1,7 +1,6 @@
 // The stack of a run: frames, and above them the values of the expression that is worked out.
-ghost use Rattle.std.specs.Prelude.{◌≡◌, ◌+◌, ◌-◌, ◌<◌, ◌≤◌, ◌∷◌, length};
-ghost use Rattle.run.specs.Levels.{no_level, frames, values, Ticked};
-ghost use Rattle.run.specs.Evaluation.{Two};
+ghost use Rattle.std.specs.Prelude.{◌≡◌, ◌+◌, ◌<◌, ◌≤◌, ◌∷◌, length};
+ghost use Rattle.run.specs.Levels.{no_level, frames, values, Popped, PoppedValue, Ticked};
 
 use language::{Stop, Value};
 
@@ -21,7 +20,8 @@ pub struct Frame {
     pub position: usize,
 }
 
-// One level of the stack: it serves as a frame or as a value.
+// One level of the stack: it serves as a frame or as a value. No enum of the two, since what lies on the stack is known
+// from where it lies, and each reading would have to answer for the other case.
 #[derive(Clone, Copy)]
 pub struct Level {
     pub(crate) frame: Frame,
@@ -45,57 +45,65 @@ impl Level {
     }
 }
 
-pub(crate) fn push_frame(levels: &mut [Level], depth: usize, frame: Frame) -> usize
-    requires room { depth < length levels.old }
-    ensures depth { result ≡ depth + 1 }
-    ensures frames { frames levels.new result ≡ frame ∷ frames levels.old depth }
-{
-    levels[depth].frame = frame;
-    depth + 1
+// The levels, lent since nothing here allocates. The first `depth` of them are frames; the values of the expression that is worked out stand
+// above these, `height` of them.
+#[derive(Drop)]
+pub struct Stack<'l> {
+    pub(crate) levels: &'l mut [Level],
+    pub(crate) depth: usize,
+    pub(crate) height: usize,
+    ghost within: { depth ≤ length levels.now },
 }
 
-pub(crate) fn top_frame(levels: &[Level], depth: usize) -> Frame
-    requires some { 0 < depth }
-    requires within { depth ≤ length levels.now }
-    ensures top { frames levels.now depth ≡ result ∷ frames levels.now (depth - 1) }
-{
-    levels[depth - 1].frame
-}
-
-// Puts a value on the `height` values above the frames.
-pub(crate) fn push_value(levels: &mut [Level], depth: usize, height: usize, value: Value) -> usize
-    requires room { depth + height < length levels.old }
-    ensures height { result ≡ height + 1 }
-    ensures values { values levels.new depth result ≡ value ∷ values levels.old depth height }
-    ensures frames_kept { frames levels.new depth ≡ frames levels.old depth }
-{
-    levels[depth + height].value = value;
-    height + 1
-}
-
-// The two newest values, the older one first.
-pub(crate) fn two_values(
-    levels: &[Level],
-    depth: usize,
-    height: usize,
-) -> Result<(Value, Value), Stop>
-    requires within { depth + height ≤ length levels.now }
-    ensures two { Two levels.now depth height result }
-{
-    if height < 2 {
-        return Err(Stop::Stuck);
+impl Stack<'_> {
+    pub(crate) fn push(&mut self, frame: Frame)
+        requires room { self.old.depth < length self.old.levels.now }
+        ensures depth { self.new.depth ≡ self.old.depth + 1 }
+        ensures frames { frames self.new.levels.now self.new.depth ≡ frame ∷ frames self.old.levels.now self.old.depth }
+        ensures length_kept { length self.new.levels.now ≡ length self.old.levels.now }
+    {
+        self.levels[self.depth].frame = frame;
+        self.depth += 1;
     }
-    let end = depth + height;
-    Ok((levels[end - 2].value, levels[end - 1].value))
+
+    // Takes the newest frame off.
+    pub(crate) fn pop(&mut self) -> Option<Frame>
+        ensures popped { Popped self.old.levels.now self.old.depth self.new.depth result }
+        ensures levels_kept { self.new.levels.now ≡ self.old.levels.now }
+    {
+        let depth = self.depth.checked_sub(1)?;
+        self.depth = depth;
+        Some(self.levels[depth].frame)
+    }
+
+    pub(crate) fn push_value(&mut self, value: Value)
+        requires room { self.old.depth + self.old.height < length self.old.levels.now }
+        ensures height { self.new.height ≡ self.old.height + 1 }
+        ensures values { values self.new.levels.now self.new.depth self.new.height ≡ value ∷ values self.old.levels.now self.old.depth self.old.height }
+        ensures depth_kept { self.new.depth ≡ self.old.depth }
+        ensures frames_kept { frames self.new.levels.now self.old.depth ≡ frames self.old.levels.now self.old.depth }
+        ensures length_kept { length self.new.levels.now ≡ length self.old.levels.now }
+    {
+        self.levels[self.depth + self.height].value = value;
+        self.height += 1;
+    }
+
+    // Takes the newest value off.
+    pub(crate) fn pop_value(&mut self) -> Option<Value>
+        requires within { self.old.depth + self.old.height ≤ length self.old.levels.now }
+        ensures popped { PoppedValue self.old.levels.now self.old.depth self.old.height self.new.height result }
+        ensures depth_kept { self.new.depth ≡ self.old.depth }
+        ensures levels_kept { self.new.levels.now ≡ self.old.levels.now }
+    {
+        let height = self.height.checked_sub(1)?;
+        self.height = height;
+        Some(self.levels[self.depth + height].value)
+    }
 }
 
 // The command at a node takes a unit.
 pub(crate) fn tick(at: usize, units: u32) -> Result<u32, Stop>
     ensures ticked { Ticked at units result }
 {
-    if units == 0 {
-        Err(Stop::Unit(at))
-    } else {
-        Ok(units - 1)
-    }
+    units.checked_sub(1).ok_or(Stop::Unit(at))
 }

@@ -7,9 +7,10 @@ mod expressions;
 mod levels;
 mod machine;
 mod operators;
+mod runner;
 mod runs;
 mod tables;
 
 pub use bindings::Binding;
 pub use levels::{Frame, Level, State};
-pub use runs::run;
+pub use runs::{RunLists, run};

@@ -1,42 +1,45 @@
 // What the operators and tests make of values.
 ghost use Rattle.std.specs.Prelude.{◌≡◌};
-ghost use Rattle.language.specs.Values.{sum, less_than, either_true, initial_value};
+ghost use Rattle.language.specs.Values.{sum, less_than, either_true};
 ghost use Rattle.language.specs.Reference.{as_truth, as_whole};
-ghost use Rattle.language.specs.Table.{type_of};
+ghost use Rattle.run.specs.Evaluation.{operator_value};
 
-use language::{Node, Number, Stop, Value};
+use language::{Kind, Number, Stop, Value};
 
 // The plus at a node.
-pub(crate) fn add(at: usize, left: Value, right: Value) -> Result<Value, Stop>
+fn add(at: usize, left: Value, right: Value) -> Result<Value, Stop>
     ensures sum { result ≡ sum at left right }
 {
-    match (left, right) {
-        (Value::Whole(x), Value::Whole(y)) => match x.checked_add(y) {
-            Some(sum) => Ok(Value::Whole(sum)),
-            None => Err(Stop::Sum(at)),
-        },
-        _ => Err(Stop::Stuck),
-    }
+    let sum = whole_of(left)?.checked_add(whole_of(right)?);
+    sum.map(Value::Whole).ok_or(Stop::Sum(at))
 }
 
-pub(crate) fn less(left: Value, right: Value) -> Result<Value, Stop>
+fn less(left: Value, right: Value) -> Result<Value, Stop>
     ensures less { result ≡ less_than left right }
 {
-    match (left, right) {
-        (Value::Whole(x), Value::Whole(y)) => Ok(Value::Truth(x < y)),
-        _ => Err(Stop::Stuck),
-    }
+    Ok(Value::Truth(whole_of(left)? < whole_of(right)?))
 }
 
-pub(crate) fn either(left: Value, right: Value) -> Result<Value, Stop>
+fn either(left: Value, right: Value) -> Result<Value, Stop>
     ensures either { result ≡ either_true left right }
 {
-    match (left, right) {
-        (Value::Truth(x), Value::Truth(y)) => Ok(Value::Truth(x || y)),
+    let (x, y) = (truth_of(left)?, truth_of(right)?);
+    Ok(Value::Truth(x || y))
+}
+
+// What the operator at a node makes of two values; a node of another kind is none.
+pub(crate) fn operate(kind: Kind, at: usize, left: Value, right: Value) -> Result<Value, Stop>
+    ensures operated { result ≡ operator_value kind at left right }
+{
+    match kind {
+        Kind::Plus => add(at, left, right),
+        Kind::Less => less(left, right),
+        Kind::Or => either(left, right),
         _ => Err(Stop::Stuck),
     }
 }
 
+// This and the next are no `TryFrom`: its error would be one more type, for the same stop.
 pub(crate) fn truth_of(value: Value) -> Result<bool, Stop>
     ensures truth { result ≡ as_truth value }
 {
@@ -52,16 +55,5 @@ pub(crate) fn whole_of(value: Value) -> Result<Number, Stop>
     match value {
         Value::Whole(number) => Ok(number),
         Value::Truth(_) => Err(Stop::Stuck),
-    }
-}
-
-// What the variable that a node declares holds at first.
-pub(crate) fn first_value(node: Node) -> Value
-    ensures first { result ≡ initial_value (type_of node.value) }
-{
-    if node.value == 0 {
-        Value::Whole(0)
-    } else {
-        Value::Truth(false)
     }
 }

@@ -1,8 +1,11 @@
-// A rule's table with the length of the stretch that each node ends.
-ghost use Rattle.std.specs.Prelude.{◌≡◌, ◌<◌, length};
+// A rule's table with the length of the stretch that each node ends. The nodes are the caller's, read-only, and the lengths
+// stand in a list that is lent: so they are two slices. A node's number has to be in range wherever it is used, as an index has.
+ghost use Rattle.std.specs.Prelude.{◌≡◌, ◌+◌, ◌<◌, ◌≤◌, length};
+ghost use Rattle.table.specs.Measured.{Lengths};
 ghost use Rattle.table.specs.Stretches.{node_at};
 ghost use Rattle.table.specs.Walk.{start_at};
-ghost use Rattle.run.specs.Shapes.{kind_at};
+ghost use Rattle.run.specs.Fit.{Lengths-prop};
+ghost use Rattle.run.specs.Shapes.{ComsBefore, back, kind_at};
 
 use language::{Kind, Node};
 
@@ -10,6 +13,8 @@ use language::{Kind, Node};
 pub struct Table<'a> {
     pub nodes: &'a [Node],
     pub lens: &'a [usize],
+    ghost size: { length lens.now ≡ length nodes.now },
+    ghost lengths: { Lengths nodes.now lens.now } by { Lengths-prop nodes.now lens.now },
 }
 
 impl<'a> Table<'a> {
@@ -24,14 +29,34 @@ impl<'a> Table<'a> {
         requires inside { at < length self.nodes.now }
         ensures kind { result ≡ kind_at self.entry.nodes.now at }
     {
-        Kind::from_number(self.nodes[at].kind)
+        Kind::try_from(self.nodes[at].kind).ok()
     }
 
     // Where the stretch begins that the node ends.
     pub(crate) fn start(self, at: usize) -> usize
-        requires inside { at < length self.lens.now }
+        requires inside { at < length self.nodes.now }
         ensures start { result ≡ start_at self.entry.lens.now at }
     {
         (at + 1).saturating_sub(self.lens[at])
+    }
+
+    // The place after that stretch.
+    pub(crate) fn end(self, at: usize) -> usize
+        requires inside { at < length self.nodes.now }
+        ensures end { result ≡ at + 1 }
+    {
+        at + 1
+    }
+
+    // Where the `count` commands begin that end right before `end`.
+    pub(crate) fn start_of_commands(self, mut end: usize, count: usize) -> usize
+        requires inside { end ≤ length self.nodes.now }
+        requires commands { ComsBefore self.nodes.now self.lens.now 0 end count }
+        ensures start { result ≡ back self.entry.lens.now end count }
+    {
+        for _ in 0..count {
+            end = self.start(end - 1);
+        }
+        end
     }
 }

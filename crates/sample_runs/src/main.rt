@@ -3,8 +3,8 @@
 
 use language::{Fault, Graded, Scalar};
 use record_store::{Cell, RecordStore};
-use rule::{Entry, Rule, check};
-use run::{Binding, Level, run};
+use rule::{CheckLists, Entry, Rule, check};
+use run::{Binding, Level, RunLists, run};
 use samples::{Sample, sample_lines};
 use scope::Record;
 
@@ -18,7 +18,12 @@ fn accept<'a>(place: &mut Rule<'a>, sample: Sample) -> Result<(), Fault> {
     let mut lens = [0; WORK];
     let mut names = [Record::blank(Entry::Hidden); WORK];
     let mut types = [Scalar::Whole; WORK];
-    check(place, sample.nodes, &mut lens, &mut names, &mut types)
+    let lists = CheckLists {
+        lens: &mut lens,
+        names: &mut names,
+        types: &mut types,
+    };
+    check(place, sample.nodes, lists)
 }
 
 fn answer(sample: Sample) -> Result<Graded, Fault> {
@@ -33,16 +38,18 @@ fn answer(sample: Sample) -> Result<Graded, Fault> {
         sample.step,
         sample.allowance,
         &mut RecordStore::over(&mut cells),
-        &mut lens,
-        &mut names,
-        &mut levels,
+        RunLists {
+            lens: &mut lens,
+            names: &mut names,
+            levels: &mut levels,
+        },
     )
 }
 
 fn show(rt: &HostRuntime, name: &str, answer: Result<Graded, Fault>) -> anyhow::Result<()> {
     match answer {
-        Ok(graded) => println!(rt; "{name} ok {} {}", graded.shift, graded.units)?,
-        Err(fault) => println!(rt; "{name} no {} {}", fault.layer.number(), fault.place)?,
+        Ok(graded) => println!(rt; "{name} {graded}")?,
+        Err(fault) => println!(rt; "{name} {fault}")?,
     }
     Ok(())
 }

@@ -41,7 +41,8 @@ impl<E: Copy> Record<E> {
     }
 }
 
-// The first `top` records are in use; `head` is the position that is seen from.
+// The first `top` records are in use; `head` is the position that is seen from, 0 where nothing is in sight. The records
+// are lent, since nothing here allocates: so they are counted, and linked by their positions.
 #[derive(Drop)]
 pub struct Scope<'a, E> {
     records: &'a mut [Record<E>],

@@ -3,5 +3,4 @@ pub mod Frames
 pub mod Pops
 pub mod Nodes
 pub mod Passes
-pub mod Starts
 pub mod SortTests

@@ -7,6 +7,8 @@ use crate::node::{Sort, formed};
 use language::{Fault, Kind, Node, TableCause};
 
 // A table that is read as far as the node `at`: at each node before it the length of the stretch that it ends is noted.
+// The nodes are the caller's, read-only, and the lengths stand in a list that is lent for them: so they are two slices, and
+// the list is longer than what is noted in it.
 #[derive(Clone, Copy)]
 pub struct Reading<'a> {
     nodes: &'a [Node],
@@ -26,7 +28,7 @@ impl<'a> Reading<'a> {
     {
         let last = end.checked_sub(1)?;
         let kind = Kind::try_from(self.nodes[last].kind).ok()?;
-        if Sort::of(kind) == sort {
+        if Sort::from(kind) == sort {
             Some(end - self.lens[last])
         } else {
             None
@@ -91,16 +93,14 @@ impl<'a> Reading<'a> {
     {
         let at = self.at;
         let node = self.nodes[at];
-        let Ok(kind) = Kind::try_from(node.kind) else {
-            return Err(Fault::new(TableCause::Kind.into(), at));
-        };
+        let kind = Kind::try_from(node.kind).or(Err(Fault::new(TableCause::Kind.into(), at)))?;
         if !formed(kind, node) {
             return Err(Fault::new(TableCause::Fields.into(), at));
         }
-        match self.start_of(kind, node) {
-            Some(start) => Ok(at + 1 - start),
-            None => Err(Fault::new(TableCause::Pieces.into(), at)),
-        }
+        let start = self
+            .start_of(kind, node)
+            .ok_or(Fault::new(TableCause::Pieces.into(), at))?;
+        Ok(at + 1 - start)
     }
 }
 

@@ -1,7 +1,7 @@
 // What one node says by itself: the sort of the piece that it ends, and whether its fields are as its kind wants them.
 ghost use Rattle.std.specs.Prelude.{◌≡◌};
 ghost use Rattle.language.specs.Table.{formed as well_formed, bit_of};
-ghost use Rattle.table.specs.Sorts.{sort_of, zero_counts};
+ghost use Rattle.table.specs.Sorts.{zero_counts};
 
 use language::{Kind, Node, Number};
 
@@ -15,10 +15,12 @@ pub enum Sort {
     Procedure,
 }
 
-impl Sort {
-    pub fn of(kind: Kind) -> Sort
-        ensures { result ≡ sort_of kind }
-    {
+impl From<Kind> for Sort {
+    ghost use Rattle.table.specs.Sorts.{sort_of};
+
+    ghost from_gives = { λ kind sort. sort ≡ sort_of kind };
+
+    fn from(kind: Kind) -> Sort {
         match kind {
             Kind::Truth | Kind::Whole | Kind::Read | Kind::Plus | Kind::Less | Kind::Or =>
                 Sort::Expression,

@@ -1,14 +1,16 @@
-use Rattle.std.proofs.Common.{◌∙◌, rules}
-use Rattle.rule.proofs.Turns.{fit_next, fit_stop, fit_done}
+use Rattle.std.proofs.Common.{rules, ◌∙◌}
+use borrow.Author.Tests.{tests}
+use Rattle.std.proofs.lemmas.Iterator.{YieldsList-from_slice, YieldsList-from_zip}
+use Rattle.std.proofs.lemmas.Iterator.Search.{all_from_yields_List}
+use Rattle.language.specs.Table.{type_of}
+use Rattle.language.specs.Values.{alike}
+use Rattle.rule.proofs.Turns.{alike_beside}
 use Rattle.rule.proofs.calls.fit.Goals as goal
 
-pub returns-then-not-same_type : goal.returns-then-not-same_type
-returns-then-not-same_type c =
-    record { alike = fit_stop c.args.formals.now c.args.types.now c.requires.types c.loop-k.k _ _ c.same_type.result c.loop-k-test.true c.type_of.ensures.given c.same_type.ensures.alike c.if-not-same_type.true ∙ c.loop-k.invariant }
-
-pub loop-k-preserved : goal.loop-k-preserved
-loop-k-preserved c =
-    fit_next c.args.formals.now c.args.types.now c.requires.types c.loop-k.k _ _ c.same_type.result c.loop-k-test.true c.type_of.ensures.given c.same_type.ensures.alike c.if-not-same_type.false ∙ c.loop-k.invariant
-
 pub returns : goal.returns
-returns c = record { alike = fit_done c.args.formals.now c.args.types.now c.requires.types c.loop-k.k (search rules) ∙ c.loop-k.invariant }
+returns c = record {
+  alike =
+      all_from_yields_List (λ p. alike p.1 (type_of p.0.value)) c.all.new.self _ _ c.all.ensures.ran
+      (YieldsList-from_zip (YieldsList-from_slice c.args.formals.now cc) (YieldsList-from_slice c.args.types.now cc)) (λ x b q k. search (rules, tests))
+      ∙ alike_beside c.args.formals.now c.args.types.now c.requires.types;
+}

@@ -1,13 +1,14 @@
-use Rattle.std.proofs.Common.{◌∙◌, arith}
-use Rattle.rule.proofs.Turns.{declared_here, declared_on}
+use Rattle.std.proofs.Common.{take, rules, ◌∙◌}
+use borrow.Author.Tests.{tests}
+use Rattle.std.proofs.lemmas.Iterator.{YieldsList-from_slice}
+use Rattle.std.proofs.lemmas.Iterator.Search.{any_from_yields_List}
+use Rattle.language.specs.Same.{same}
+use Rattle.rule.proofs.Turns.{named_among}
 use Rattle.rule.proofs.declarations.declared.Goals as goal
 
-pub returns-then-same_name : goal.returns-then-same_name
-returns-then-same_name c =
-    record { found = declared_here c.args.nodes.now c.args.name c.loop-left.left c.same_name.result c.loop-left-test.true c.same_name.ensures c.if-same_name.true ∙ c.loop-left.invariant.0 }
-
-pub loop-left-preserved : goal.loop-left-preserved
-loop-left-preserved c = (
-  declared_on c.args.nodes.now c.args.name c.loop-left.left c.same_name.result c.loop-left-test.true c.same_name.ensures c.if-same_name.false ∙ c.loop-left.invariant.0,
-  omega (arith, c.loop-left.invariant.1),
-)
+pub returns : goal.returns
+returns c = record {
+  found =
+      any_from_yields_List (λ n. same c.args.name n.name) _ _ _ c.any.ensures.ran (YieldsList-from_slice (take c.args.count c.args.nodes.now) cc) (λ x b q k. search (rules, tests))
+      ∙ named_among c.args.nodes.now c.args.name c.args.count c.requires.within;
+}

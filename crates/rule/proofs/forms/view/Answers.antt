@@ -1,15 +1,9 @@
-use Rattle.language.specs.declared.tables.Kind.TheVariants.{Null, Assign, If, While, Call}
-use Rattle.rule.proofs.ComShapes.{shape_of, shape_rest, com_known, com_long, assign_shows, call_shows}
+use Rattle.language.specs.declared.tables.Kind.TheVariants.{Null, Assign, If, While, Call, Block}
+use Rattle.rule.proofs.ComShapes.{shape_of, no_other, com_known, com_long, assign_shows, call_shows}
 use Rattle.rule.proofs.forms.view.Goals as goal
 
 pub kind-requires : goal.kind-requires
 kind-requires c = record { some = com_long c.args.part c.requires.some.0 c.requires.some.1; known = com_known c.args.part c.requires.some.0 c.requires.some.1 }
-
-pub last-requires : goal.last-requires
-last-requires c = record { some = com_long c.args.part c.requires.some.0 c.requires.some.1 }
-
-pub body-requires : goal.body-requires
-body-requires c = record { some = com_long c.args.part c.requires.some.0 c.requires.some.1; fine = c.requires.some.1.fine }
 
 pub thirds-requires : goal.thirds-requires
 thirds-requires c = record { thirded = (shape_of c.args.part If c.requires.some.0 c.in-If.ensures.kind c.requires.some.1).thirded }
@@ -17,18 +11,13 @@ thirds-requires c = record { thirded = (shape_of c.args.part If c.requires.some.
 pub halves-requires : goal.halves-requires
 halves-requires c = record { halved = (shape_of c.args.part While c.requires.some.0 c.in-While.ensures.kind c.requires.some.1).halved }
 
-pub last-requires-in-Call : goal.last-requires-in-Call
-last-requires-in-Call c = record { some = com_long c.args.part c.requires.some.0 c.requires.some.1 }
-
-pub body-requires-in-Call : goal.body-requires-in-Call
-body-requires-in-Call c = record { some = com_long c.args.part c.requires.some.0 c.requires.some.1; fine = c.requires.some.1.fine }
-
 pub block_parts-requires : goal.block_parts-requires
-block_parts-requires c = record {
-  blocked =
-      (shape_rest c.args.part c.kind.result c.requires.some.0 c.in_default.not-Null c.in_default.not-Assign c.in_default.not-If c.in_default.not-While c.in_default.not-Call
-      (shape_of c.args.part c.kind.result c.requires.some.0 c.kind.ensures.kind c.requires.some.1)).blocked;
-}
+block_parts-requires c = record { blocked = (shape_of c.args.part Block c.requires.some.0 c.in-Block.ensures.kind c.requires.some.1).blocked }
+
+pub unreachable-requires : goal.unreachable-requires
+unreachable-requires c =
+    no_other c.args.part c.kind.result c.requires.some.0 c.in_default.not-Null c.in_default.not-Assign c.in_default.not-If c.in_default.not-While c.in_default.not-Call c.in_default.not-Block
+    (shape_of c.args.part c.kind.result c.requires.some.0 c.kind.ensures.kind c.requires.some.1)
 
 pub returns-in-Null : goal.returns-in-Null
 returns-in-Null c = record { shows = λ x h. shape_of c.args.part Null x c.in-Null.ensures.kind h }
@@ -51,9 +40,5 @@ returns-in-Call c = record {
       call_shows c.args.part c.last-in-Call.result x c.body-in-Call.result c.last-in-Call.ensures.node (shape_of c.args.part Call x c.in-Call.ensures.kind h _ c.body-in-Call.ensures.cut);
 }
 
-pub returns-in_default : goal.returns-in_default
-returns-in_default c = record {
-  shows = λ x h.
-      (shape_rest c.args.part c.kind.result x c.in_default.not-Null c.in_default.not-Assign c.in_default.not-If c.in_default.not-While c.in_default.not-Call
-      (shape_of c.args.part c.kind.result x c.kind.ensures.kind h)).view _ _ _ c.block_parts.ensures.cuts;
-}
+pub returns-in-Block : goal.returns-in-Block
+returns-in-Block c = record { shows = λ x h. (shape_of c.args.part Block x c.in-Block.ensures.kind h).view _ _ _ c.block_parts.ensures.cuts }

@@ -1,7 +1,8 @@
+use Rattle.std.proofs.Common.{length}
 use Rattle.run.proofs.Opens.{BindingOn}
 use Rattle.run.proofs.blocks.bind_arguments.Given as goal
 
-abbrev pub invariant-loop-k : goal.invariant-loop-k
-invariant-loop-k l =
-    BindingOn l.table.nodes.now l.arguments l.formals l.k l.initial.scope.records.now l.initial.scope.head l.initial.scope.top l.seen
+abbrev pub invariant-loop-argument : goal.invariant-loop-argument
+invariant-loop-argument l =
+    BindingOn l.table.nodes.now l.fn.arguments l.fn.formals (length l.yielded) l.initial.scope.records.now l.initial.scope.head l.initial.scope.top l.seen
     l.scope.records.now l.scope.top l.inner

@@ -1,5 +1,0 @@
-use Rattle.rule.specs.Pieces.{long}
-use Rattle.rule.proofs.commands.+hide.Given as goal
-
-abbrev pub decreases-hide : goal.decreases-hide
-decreases-hide l = long l.procs

@@ -1,5 +1,0 @@
-use Rattle.rule.proofs.expressions.+expression.Given as goal
-use Rattle.std.proofs.Common.{length}
-
-abbrev pub decreases-expression : goal.decreases-expression
-decreases-expression l = length l.part.nodes.now
