@@ -83,6 +83,7 @@ impl<'a> ByteStore<'a> {
     }
 }
 
+// The record store's calls have the same shape; what each says beside the trait's words is of its own memory, so they are not one.
 impl<'a> Store for ByteStore<'a> {
     ghost bound = { λ s. cells s.bytes.now };
 

@@ -220,9 +220,25 @@ fn a_table_has_1_to_4096_nodes(rt: HostRuntime) -> Result<(), Fail> {
     let mut place = Rule::built_in();
     let long = Err(Fault::new(Layer::Table(TableCause::Length), 0));
     assert!(rt; work.check(&mut place, &[]) == long);
-    let nodes = nulls(rt.alloc(), 4095, block(0, 0, 4095))?;
+    let nodes = nulls(
+        rt.alloc(),
+        4095,
+        Node {
+            kind: 14,
+            c: 4095,
+            ..NULL
+        },
+    )?;
     assert!(rt; work.check(&mut place, &nodes) == Ok(()));
-    let nodes = nulls(rt.alloc(), 4096, block(0, 0, 4096))?;
+    let nodes = nulls(
+        rt.alloc(),
+        4096,
+        Node {
+            kind: 14,
+            c: 4096,
+            ..NULL
+        },
+    )?;
     assert!(rt; work.check(&mut place, &nodes) == long);
     Ok(())
 }
@@ -251,14 +267,30 @@ fn the_deepest_tables_are_accepted(rt: HostRuntime) -> Result<(), Fail> {
     let mut place = Rule::built_in();
     let mut blocks = filled(rt.alloc(), NULL, 1)?;
     for _ in 0..4095 {
-        blocks.push(block(0, 0, 1))?;
+        blocks.push(Node {
+            kind: 14,
+            c: 1,
+            ..NULL
+        })?;
     }
     assert!(rt; work.check(&mut place, &blocks) == Ok(()));
-    let mut sums = filled(rt.alloc(), whole(1), 2048)?;
+    let mut sums = filled(
+        rt.alloc(),
+        Node {
+            kind: 1,
+            value: 1,
+            ..NULL
+        },
+        2048,
+    )?;
     for _ in 0..2047 {
-        sums.push(plain(Kind::Plus))?;
+        sums.push(Node { kind: 3, ..NULL })?;
     }
-    sums.push(assign(1))?;
+    sums.push(Node {
+        kind: 7,
+        name: 1,
+        ..NULL
+    })?;
     assert!(rt; work.check(&mut place, &sums) == Ok(()));
     Ok(())
 }
@@ -287,14 +319,29 @@ fn the_deepest_commands_are_accepted(rt: HostRuntime) -> Result<(), Fail> {
     let heap = rt.alloc();
     let mut work = work_lists(heap, LONGEST)?;
     let mut place = Rule::built_in();
-    let test = [truth(0)];
-    let blocks = nested(heap, &[], NULL, &[block(0, 0, 1)], 4095)?;
+    let truth = [Node { kind: 0, ..NULL }];
+    let block = Node {
+        kind: 14,
+        c: 1,
+        ..NULL
+    };
+    let blocks = nested(heap, &[], NULL, &[block], 4095)?;
     assert!(rt; work.check(&mut place, &blocks) == Ok(()));
-    let conditionals = nested(heap, &test, NULL, &[NULL, plain(Kind::If)], 1365)?;
+    let conditionals = nested(heap, &truth, NULL, &[NULL, Node { kind: 8, ..NULL }], 1365)?;
     assert!(rt; work.check(&mut place, &conditionals) == Ok(()));
-    let loops = nested(heap, &test, NULL, &[plain(Kind::While)], 2047)?;
+    let loops = nested(heap, &truth, NULL, &[Node { kind: 9, ..NULL }], 2047)?;
     assert!(rt; work.check(&mut place, &loops) == Ok(()));
-    let procedures = nested(heap, &[], NULL, &[procedure(2, 0), block(0, 1, 0)], 2047)?;
+    let procedure = Node {
+        kind: 13,
+        name: 2,
+        ..NULL
+    };
+    let around = Node {
+        kind: 14,
+        b: 1,
+        ..NULL
+    };
+    let procedures = nested(heap, &[], NULL, &[procedure, around], 2047)?;
     assert!(rt; work.check(&mut place, &procedures) == Ok(()));
     Ok(())
 }
@@ -304,9 +351,17 @@ fn the_deepest_sums_are_accepted(rt: HostRuntime) -> Result<(), Fail> {
     let heap = rt.alloc();
     let mut work = work_lists(heap, LONGEST)?;
     let mut place = Rule::built_in();
-    let one = whole(1);
-    let plus = plain(Kind::Plus);
-    let to_out = assign(1);
+    let one = Node {
+        kind: 1,
+        value: 1,
+        ..NULL
+    };
+    let plus = Node { kind: 3, ..NULL };
+    let to_out = Node {
+        kind: 7,
+        name: 1,
+        ..NULL
+    };
     let mut right = nested(heap, &[one], one, &[plus], 2047)?;
     right.push(to_out)?;
     assert!(rt; work.check(&mut place, &right) == Ok(()));
@@ -320,10 +375,34 @@ fn the_deepest_sums_are_accepted(rt: HostRuntime) -> Result<(), Fail> {
 fn a_refusal_leaves_the_place(rt: HostRuntime) -> Result<(), Fail> {
     let mut work = work_lists(rt.alloc(), 64)?;
     let mut place = Rule::built_in();
-    let nodes = [decl(2), NULL, block(1, 0, 1)];
+    let nodes = [
+        Node {
+            kind: 12,
+            name: 2,
+            ..NULL
+        },
+        NULL,
+        Node {
+            kind: 14,
+            a: 1,
+            c: 1,
+            ..NULL
+        },
+    ];
     assert!(rt; work.check(&mut place, &nodes) == Ok(()));
     assert!(rt; place.need() == 3 && place.nodes().len() == 3);
-    let unknown = [read(9), assign(1)];
+    let unknown = [
+        Node {
+            kind: 2,
+            name: 9,
+            ..NULL
+        },
+        Node {
+            kind: 7,
+            name: 1,
+            ..NULL
+        },
+    ];
     assert!(rt;
         work.check(&mut place, &unknown) == Err(Fault::new(Layer::Names(NamesCause::Variable), 0))
     );

@@ -224,6 +224,7 @@ impl<S: Store> Piece<S> {
         ensures back { Back ticket result }
         ensures does { Does (view S.Store self.old) (undoes ticket.number) (said_back Answer.Undone result) (view S.Store self.new) }
     {
+        // as in `keep`, the ticket goes back with the refusal
         if let Err(fault) = self.resize(&ticket) {
             return Err(Returned { fault, ticket });
         }

@@ -65,6 +65,7 @@ impl<'a> RecordStore<'a> {
     }
 }
 
+// The byte store's calls have the same shape; what each says beside the trait's words is of its own memory, so they are not one.
 impl<'a> Store for RecordStore<'a> {
     ghost bound = { λ s. span s.cells.now };
 

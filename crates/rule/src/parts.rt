@@ -5,7 +5,7 @@ use language::Node;
 
 // Some nodes of a table with the length of the piece that each one ends, and the number of the first of them. Each node
 // has its length, and a number that a table has. The nodes are the caller's, read-only, and the lengths stand in a list
-// that is lent: so they are two slices.
+// that is lent: so they are two slices. Unlike the table that is read or run, a part is numbered from its place in a table.
 #[derive(Clone, Copy)]
 pub struct Part<'a> {
     pub nodes: &'a [Node],

@@ -55,7 +55,7 @@ impl fmt::Display for WriteRefusal {
 
 impl Error for WriteRefusal {}
 
-// In a run a refusal of the store is a misuse.
+// In a run a refusal of the store is a misuse. One impl for each type of refusal, as the trait of std wants.
 impl From<Full> for Stop {
     ghost from_gives = { λ _ stop. stop ≡ Stuck };
 
