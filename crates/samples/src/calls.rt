@@ -2,7 +2,7 @@
 ghost use Rattle.samples.specs.Samples.{AsDue};
 
 use crate::entries::{Sample, due, node, nodes, sample};
-use language::{Fault, Graded, Layer, NamesCause, Node};
+use language::{Fault, Graded, Kind, Layer, NamesCause, Node};
 
 // Every answer is the defined one: the contract is one equation over the whole list.
 pub fn call_samples() -> [Sample; 8]

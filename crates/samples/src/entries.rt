@@ -14,21 +14,24 @@ pub struct Sample {
 
 // A node by its word and the fields that its kind lists; `raw` has all six.
 macro_rules! node {
-    (truth $value:literal) => { node!(raw 0 0 $value 0 0 0) };
-    (whole $value:literal) => { node!(raw 1 0 $value 0 0 0) };
-    (read $name:literal) => { node!(raw 2 $name 0 0 0 0) };
-    (plus) => { node!(raw 3 0 0 0 0 0) };
-    (less) => { node!(raw 4 0 0 0 0 0) };
-    (or) => { node!(raw 5 0 0 0 0 0) };
-    (null) => { node!(raw 6 0 0 0 0 0) };
-    (assign $name:literal) => { node!(raw 7 $name 0 0 0 0) };
-    (if) => { node!(raw 8 0 0 0 0 0) };
-    (while) => { node!(raw 9 0 0 0 0 0) };
-    (call $name:literal $a:literal) => { node!(raw 10 $name 0 $a 0 0) };
-    (argument $name:literal) => { node!(raw 11 $name 0 0 0 0) };
-    (decl $name:literal $type:literal) => { node!(raw 12 $name $type 0 0 0) };
-    (proc $name:literal $a:literal) => { node!(raw 13 $name 0 $a 0 0) };
-    (block $a:literal $b:literal $c:literal) => { node!(raw 14 0 0 $a $b $c) };
+    (truth $value:literal) => { node!(of Truth 0 $value 0 0 0) };
+    (whole $value:literal) => { node!(of Whole 0 $value 0 0 0) };
+    (read $name:literal) => { node!(of Read $name 0 0 0 0) };
+    (plus) => { node!(of Plus 0 0 0 0 0) };
+    (less) => { node!(of Less 0 0 0 0 0) };
+    (or) => { node!(of Or 0 0 0 0 0) };
+    (null) => { node!(of Null 0 0 0 0 0) };
+    (assign $name:literal) => { node!(of Assign $name 0 0 0 0) };
+    (if) => { node!(of If 0 0 0 0 0) };
+    (while) => { node!(of While 0 0 0 0 0) };
+    (call $name:literal $a:literal) => { node!(of Call $name 0 $a 0 0) };
+    (argument $name:literal) => { node!(of Argument $name 0 0 0 0) };
+    (decl $name:literal $type:literal) => { node!(of Decl $name $type 0 0 0) };
+    (proc $name:literal $a:literal) => { node!(of Proc $name 0 $a 0 0) };
+    (block $a:literal $b:literal $c:literal) => { node!(of Block 0 0 $a $b $c) };
+    (of $kind:ident $name:literal $value:literal $a:literal $b:literal $c:literal) => {
+        Node { kind: Kind::$kind as u8, name: $name, value: $value, a: $a, b: $b, c: $c }
+    };
     (raw $kind:literal $name:literal $value:literal $a:literal $b:literal $c:literal) => {
         Node { kind: $kind, name: $name, value: $value, a: $a, b: $b, c: $c }
     };

@@ -2,7 +2,7 @@
 ghost use Rattle.samples.specs.Samples.{AsDue};
 
 use crate::entries::{Sample, due, node, nodes, sample};
-use language::{Fault, Layer, Node, TableCause};
+use language::{Fault, Kind, Layer, Node, TableCause};
 
 // Every answer is the defined one: the contract is one equation over the whole list.
 pub fn form_refusals() -> [Sample; 19]
