@@ -18,7 +18,7 @@ BY_LINE = {
         r'|None => (return )?(Err|None)|_ => return Err\(|let Ok\(.*\) = .* else \{|= \S*kind\(.*\) else \{'),
     '1b an enum with a refusal beside its answers, a flag or a mark beside a value': (
         r'^ +Refused\(|^ +(pub(\(crate\))? )?\w+: (bool|Mark),'),
-    '1c a number for a kind, or for none': r'kind: u8,|kind: [0-9]|node!\(raw [0-9]|^ *_ => 0,|enter\([01],',
+    '1c a number for a kind, or for none': r'kind: u8,|kind: [0-9]|node!\(raw [0-9]|^ *_ => 0,|enter\((&mut \w+, )?[01],',
     '3a loops that count or walk by hand': r'^ *while (?!let)',
     '3b loops over numbers, and items with their numbers': r'^ *for (\w+|_|\(\w+, \w+\)) in .*(\.\.|enumerate)',
     '3c a loop or a test that is a method of the library': r'if a < b \{|if !\w+\.graded|if place < \w+\.len\(\)|if points < 1|count == 0 \|\||units == 0 \{|if l >= counted',

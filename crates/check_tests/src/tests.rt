@@ -7,6 +7,7 @@ use std::alloc::{AllocError, Global};
 use std::process::Abort;
 use std::test::Fail;
 
+// Not the code's own table, so that the tests do not lean on it.
 const NULL: Node = Node {
     kind: 6,
     name: 0,

@@ -34,6 +34,7 @@ fn take_points<S: Store>(store: &mut S) -> Result<[u16; POINTS], Full> {
     Ok(locations)
 }
 
+// This and the next print other words, so they are two.
 fn show_read(rt: &HostRuntime, location: u16, answer: Result<Value, Dead>) -> anyhow::Result<()> {
     match answer {
         Ok(value) => println!(rt; "location {location} holds {value}")?,

@@ -13,7 +13,7 @@ use run::{Binding, Level, RunLists};
 use scope::Record;
 use store::Store;
 
-// A grade, with its rule by the place of the table in a list.
+// A grade, with its rule by the place of the table in a list: a rule in its place would ask more of callers.
 #[derive(Clone, Copy)]
 pub struct Grading {
     pub ticket: u32,

@@ -25,7 +25,8 @@ pub struct Returned {
 }
 
 impl Returned {
-    // The refusal alone, where the ticket is none that a caller holds.
+    // The refusal alone, where the ticket is none that a caller holds. No `From`: as a public one it would let a caller let
+    // a ticket go.
     pub(crate) fn into_fault(self) -> Fault
         ensures { result ≡ self.fault }
     {

@@ -16,7 +16,7 @@ pub struct Point {
     pub graded: bool,
 }
 
-// The shift at a location that holds one.
+// The shift at a location that holds one. Store and points are no struct, which would be taken apart at once.
 pub(crate) fn shift_at<S: Store>(store: &S, location: u16) -> Number
     requires whole { HoldsShift (S.Store.at store.now) location }
     ensures shift { result ≡ shift_in (S.Store.at store.now location) }

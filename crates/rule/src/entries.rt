@@ -8,7 +8,7 @@ use crate::checker::Checker;
 use language::{Fault, Name, NamesCause, Scalar};
 use scope::Mark;
 
-// A procedure, by numbers since the table is the caller's: the number of its first formal, how many formals it has, and the locations that its body needs.
+// A procedure, by numbers, since a slice of its formals would have to live longer than the list: the number of its first formal, how many formals it has, and the locations that its body needs.
 #[derive(Clone, Copy)]
 pub struct Routine {
     pub first: usize,
@@ -25,7 +25,7 @@ pub enum Entry {
 }
 
 impl Checker<'_, '_, '_> {
-    // The type of the variable of this name.
+    // The type of the variable of this name; name and place come from one node, which the caller's part names.
     pub(crate) fn variable(&self, name: Name, place: usize) -> Result<Scalar, Fault>
         ensures says { (ρ : Sights) → Sees self.now ρ → result ≡ as_variable place (look name ρ) }
     {

@@ -112,7 +112,7 @@ fn needed(nodes: &[Node], lists: CheckLists<'_, '_, '_>) -> Result<usize, Fault>
     consistent(nodes, CheckLists { lens, names, types })
 }
 
-// Checks the table, with the three lists to work in: puts an accepted one into the place, and leaves the place as it
+// Checks the table, with the three lists to work in, which are the memory and not the question: puts an accepted one into the place, and leaves the place as it
 // was where the table is refused.
 pub fn check<'a>(
     place: &mut Rule<'a>,

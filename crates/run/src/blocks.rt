@@ -1,6 +1,7 @@
 // Blocks and calls: their variables, procedures and commands. Each function takes the parts of a runner that it
 // uses; as methods of the runner they were no plainer, since each would have to say that the other parts stay. Declarations and
-// arguments are given by number, since what is said of them is said of the table's nodes.
+// arguments are given by number, since what is said of them is said of the table's nodes; the room for what is to be entered
+// is asked by each, since it does not hold at all times.
 ghost use Rattle.std.specs.Prelude.{◌≡◌, ℕ, ◌+◌, ◌-◌, ◌<◌, ◌≤◌, length};
 ghost use Rattle.language.specs.Runs.{release_all};
 ghost use Rattle.run.specs.Shapes.{ComsBefore, ProcsBefore};

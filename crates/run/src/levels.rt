@@ -11,7 +11,8 @@ pub enum State {
     End,
 }
 
-// A command or a block, by its node, with the number of records in use and the position to see from.
+// A command or a block, by its node, with the number of records in use and the position to see from: two numbers and no
+// mark of the list of names, since the definitions read them.
 #[derive(Clone, Copy)]
 pub struct Frame {
     pub state: State,

@@ -1,5 +1,6 @@
 // The runner: one step at a time of the newest frame. What the steps ask (`Ready`, the frame's state and kind, the names'
-// procedures) holds of the frame that was just taken off, and not of a runner at all times, so it is asked by each.
+// procedures) holds of the frame that was just taken off, and not of a runner at all times, so it is asked by each. The store
+// is no part of a runner, so it goes beside the frame or the node.
 ghost use Rattle.std.specs.Prelude.{◌≡◌, ℕ, ◌+◌, ◌-◌, ◌<◌, ◌≤◌, [], ◌∷◌, length, Some};
 ghost use Rattle.language.specs.declared.tables.Kind.TheVariants.{Assign, If, While, Call, Block};
 ghost use Rattle.language.specs.Runs.{release_all};

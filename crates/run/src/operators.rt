@@ -1,4 +1,4 @@
-// What the operators and tests make of values.
+// What the operators and tests make of values: `left` and `right` are the operands.
 ghost use Rattle.std.specs.Prelude.{◌≡◌};
 ghost use Rattle.language.specs.Values.{sum, less_than, either_true};
 ghost use Rattle.language.specs.Reference.{as_truth, as_whole};

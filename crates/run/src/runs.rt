@@ -33,7 +33,7 @@ fn release_both<S: Store>(input: u16, output: u16, store: &mut S) -> Result<(), 
 
 impl Runner<'_, '_, '_> {
     // Performs the rule's command, with `in` and `out` at these locations; gives the units left. `Fresh` is asked by each of
-    // the three, as it is over with the first step.
+    // the three, as it is over with the first step. The two locations are taken one after the other, so they are no struct.
     fn perform_rule<S: Store>(
         &mut self,
         store: &mut S,
@@ -99,7 +99,8 @@ pub struct RunLists<'l, 'n, 'v> {
     pub levels: &'v mut [Level],
 }
 
-// Asks whether each of the three lists is long enough, and then whether the store has room for the rule's need.
+// Asks whether each of the three lists is long enough, and then whether the store has room for the rule's need. Check asks
+// the same of lists of other types.
 fn ask<S: Store>(rule: &Rule<'_>, store: &S, lists: &RunLists<'_, '_, '_>) -> Result<(), Fault>
     ensures answer { result ≡ questions (length rule.now.nodes.now) rule.now.need (length lists.now.lens.now) (length lists.now.names.now) (length lists.now.levels.now) (S.Store.bound store.now) (live (S.Store.at store.now)) }
 {

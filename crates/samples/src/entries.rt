@@ -12,7 +12,7 @@ pub struct Sample {
     pub due: Result<Graded, Fault>,
 }
 
-// A node by its word and the fields that its kind lists; `raw` has all six.
+// A node by its word and the fields that its kind lists; `raw` has all six, by number, for nodes that break a form.
 macro_rules! node {
     (truth $value:literal) => { node!(of Truth 0 $value 0 0 0) };
     (whole $value:literal) => { node!(of Whole 0 $value 0 0 0) };

@@ -1,0 +1,377 @@
+// Calls of pieces on both stores, with the answers that the documents give.
+use byte_store::ByteStore;
+use history::Shown;
+use language::{
+    Fault, Graded, Layer, Node, Number, PieceCause, RunCause, Scalar, TableCause, Value,
+};
+use piece::{Piece, Returned, Ticket};
+use record_store::{Cell, RecordStore};
+use rule::{CheckLists, Entry, Rule, check};
+use run::{Binding, Level, RunLists};
+use samples::{Sample, sample_lines};
+use scope::Record;
+use std::alloc::{AllocError, Global};
+use std::process::Abort;
+use std::test::Fail;
+use store::Store;
+
+const CELLS: usize = 64;
+
+// Records in each work list: enough for every sample line.
+const WORK: usize = 64;
+
+const NUMBER: u32 = 3;
+
+// The work lists of check and of a run.
+#[derive(Drop)]
+struct Work {
+    lens: Vec<usize>,
+    entries: Vec<Record<Entry>>,
+    types: Vec<Scalar>,
+    names: Vec<Record<Binding>>,
+    levels: Vec<Level>,
+}
+
+impl Work {
+    fn new(heap: Global, count: usize) -> Result<Work, AllocError> {
+        Ok(Work {
+            lens: vec![in heap; 0usize; count]?,
+            entries: vec![in heap; Record::blank(Entry::Hidden); count]?,
+            types: vec![in heap; Scalar::Whole; count]?,
+            names: vec![in heap; Record::blank(Binding::Place(0)); count]?,
+            levels: vec![in heap; Level::blank(); count]?,
+        })
+    }
+
+    fn accept<'a>(&mut self, nodes: &'a [Node]) -> Result<Rule<'a>, Fault> {
+        let mut place = Rule::built_in();
+        let lists = CheckLists {
+            lens: &mut self.lens,
+            names: &mut self.entries,
+            types: &mut self.types,
+        };
+        check(&mut place, nodes, lists)?;
+        Ok(place)
+    }
+
+    fn lists(&mut self) -> RunLists<'_, '_, '_> {
+        RunLists {
+            lens: &mut self.lens,
+            names: &mut self.names,
+            levels: &mut self.levels,
+        }
+    }
+}
+
+// Rule A of the samples, which gives the step plus 1.
+fn rule_a(work: &mut Work) -> Result<Rule<'static>, Fault> {
+    work.accept(sample_lines()[0].nodes)
+}
+
+fn no(cause: PieceCause, place: usize) -> Fault {
+    Fault::new(cause.into(), place)
+}
+
+fn given(step: Number) -> Result<Graded, Fault> {
+    Ok(Graded {
+        shift: step,
+        units: 1,
+    })
+}
+
+fn shows<S: Store>(piece: &Piece<S>, point: u16, due: (Number, Number)) -> bool {
+    match piece.show(point) {
+        Ok(Shown { shift, step }) => (shift, step) == due,
+        Err(_) => false,
+    }
+}
+
+// The step with which a resize ended.
+fn ended(rt: &impl Abort, answer: Result<Number, Returned>) -> Number {
+    match answer {
+        Ok(step) => step,
+        Err(returned) => panic!(rt; "{}", returned.fault),
+    }
+}
+
+// The ticket that comes back with this refusal.
+fn returned(rt: &impl Abort, answer: Result<Number, Returned>, due: Fault) -> Ticket {
+    match answer {
+        Ok(step) => panic!(rt; "ended at {step}"),
+        Err(Returned { fault, ticket }) => {
+            assert!(rt; fault == due, "{fault}");
+            ticket
+        }
+    }
+}
+
+// ---- the worked resize of the document of pieces
+
+fn worked_resize<S: Store + Drop>(rt: &impl Abort, work: &mut Work, store: S) -> Result<(), Fail> {
+    let a = rule_a(work)?;
+    let mut piece = Piece::new(store, NUMBER);
+    piece.lay(2)?;
+    assert!(rt; shows(&piece, 0, (0, 0)) && shows(&piece, 1, (0, 0)));
+    let ticket = piece.open(4)?;
+    assert!(rt; piece.grade(&ticket, 0, &a, 1000, work.lists()) == given(5));
+    let ticket = returned(rt, piece.keep(ticket), no(PieceCause::Ungraded, 1));
+    assert!(rt; shows(&piece, 0, (5, 0)) && shows(&piece, 1, (0, 0)));
+    assert!(rt; piece.grade(&ticket, 1, &a, 1000, work.lists()) == given(5));
+    assert!(rt; ended(rt, piece.keep(ticket)) == 4);
+    assert!(rt; shows(&piece, 0, (5, 4)) && shows(&piece, 1, (5, 4)));
+    let ticket = piece.open(9)?;
+    assert!(rt; piece.grade(&ticket, 1, &a, 1000, work.lists()) == given(10));
+    assert!(rt; shows(&piece, 0, (5, 4)) && shows(&piece, 1, (10, 4)));
+    assert!(rt; ended(rt, piece.undo(ticket)) == 4);
+    assert!(rt; shows(&piece, 0, (5, 4)) && shows(&piece, 1, (5, 4)));
+    Ok(())
+}
+
+#[test]
+fn the_worked_resize_on_records(rt: HostRuntime) -> Result<(), Fail> {
+    let mut work = Work::new(rt.alloc(), WORK)?;
+    let mut cells = [Cell::free(); CELLS];
+    worked_resize(&rt, &mut work, RecordStore::over(&mut cells))
+}
+
+#[test]
+fn the_worked_resize_on_bytes(rt: HostRuntime) -> Result<(), Fail> {
+    let mut work = Work::new(rt.alloc(), WORK)?;
+    let mut bytes = [0; 5 * CELLS];
+    worked_resize(&rt, &mut work, ByteStore::over(&mut bytes))
+}
+
+// One point of two is graded, so the keep is refused; the undo takes its shift back.
+#[test]
+fn an_undo_after_a_refused_keep(rt: HostRuntime) -> Result<(), Fail> {
+    let mut work = Work::new(rt.alloc(), WORK)?;
+    let a = rule_a(&mut work)?;
+    let mut cells = [Cell::free(); CELLS];
+    let mut piece = Piece::new(RecordStore::over(&mut cells), NUMBER);
+    piece.lay(2)?;
+    let ticket = piece.open(4)?;
+    assert!(rt; piece.grade(&ticket, 0, &a, 1000, work.lists()) == given(5));
+    let ticket = returned(&rt, piece.keep(ticket), no(PieceCause::Ungraded, 1));
+    assert!(rt; ended(&rt, piece.undo(ticket)) == 0);
+    assert!(rt; shows(&piece, 0, (0, 0)));
+    Ok(())
+}
+
+// ---- the refusals, in the order of the calls
+
+#[test]
+fn a_lay_is_refused(rt: HostRuntime) -> Result<(), Fail> {
+    let mut cells = [Cell::free(); 2];
+    let mut piece = Piece::new(RecordStore::over(&mut cells), NUMBER);
+    for points in [0, 257] {
+        assert!(rt;
+            piece.lay(points) == Err(no(PieceCause::Points, 0)),
+            "{points}"
+        );
+    }
+    assert!(rt; piece.lay(3) == Err(no(PieceCause::Store, 0)));
+    piece.lay(2)?;
+    assert!(rt; piece.lay(2) == Err(no(PieceCause::NotBare, 0)));
+    assert!(rt; shows(&piece, 1, (0, 0)));
+    Ok(())
+}
+
+#[test]
+fn a_lay_wants_an_empty_store(rt: HostRuntime) -> Result<(), Fail> {
+    let mut bytes = [0; 5 * CELLS];
+    let mut store = ByteStore::over(&mut bytes);
+    let _ = store.take(Value::Whole(7))?;
+    let mut piece = Piece::new(store, NUMBER);
+    assert!(rt; piece.lay(1) == Err(no(PieceCause::Store, 0)));
+    Ok(())
+}
+
+#[test]
+fn the_most_points_are_laid(rt: HostRuntime) -> Result<(), Fail> {
+    let mut cells = [Cell::free(); 256];
+    let mut piece = Piece::new(RecordStore::over(&mut cells), NUMBER);
+    piece.lay(256)?;
+    assert!(rt; shows(&piece, 255, (0, 0)));
+    Ok(())
+}
+
+// The refusal of an open.
+fn not_opened<S: Store>(rt: &impl Abort, piece: &mut Piece<S>) -> Fault {
+    match piece.open(4) {
+        Ok(_ticket) => panic!(rt; "opened"),
+        Err(fault) => fault,
+    }
+}
+
+#[test]
+fn an_open_is_refused(rt: HostRuntime) -> Result<(), Fail> {
+    let mut cells = [Cell::free(); CELLS];
+    let mut piece = Piece::new(RecordStore::over(&mut cells), NUMBER);
+    assert!(rt; not_opened(&rt, &mut piece) == no(PieceCause::NotReady, 0));
+    piece.lay(1)?;
+    let ticket = piece.open(4)?;
+    assert!(rt; not_opened(&rt, &mut piece) == no(PieceCause::NotReady, 0));
+    assert!(rt; ended(&rt, piece.undo(ticket)) == 0);
+    Ok(())
+}
+
+// The ticket of an open, where a `?` would let another ticket go.
+fn opened<S: Store>(rt: &impl Abort, piece: &mut Piece<S>) -> Ticket {
+    match piece.open(9) {
+        Ok(ticket) => ticket,
+        Err(fault) => panic!(rt; "{fault}"),
+    }
+}
+
+// Calls with the ticket of a piece of another number.
+#[test]
+fn a_ticket_of_another_number_is_refused(rt: HostRuntime) -> Result<(), Fail> {
+    let mut work = Work::new(rt.alloc(), WORK)?;
+    let a = rule_a(&mut work)?;
+    let no = no(PieceCause::Ticket, 0);
+    let (mut cells, mut others) = ([Cell::free(); CELLS], [Cell::free(); CELLS]);
+    let mut piece = Piece::new(RecordStore::over(&mut cells), NUMBER);
+    let mut other = Piece::new(RecordStore::over(&mut others), NUMBER + 1);
+    piece.lay(1)?;
+    other.lay(1)?;
+    let own = piece.open(4)?;
+    let ticket = opened(&rt, &mut other);
+    assert!(rt; piece.grade(&ticket, 0, &a, 1000, work.lists()) == Err(no));
+    let ticket = returned(&rt, piece.keep(ticket), no);
+    let ticket = returned(&rt, piece.undo(ticket), no);
+    assert!(rt; ended(&rt, piece.undo(own)) == 0);
+    assert!(rt; shows(&piece, 0, (0, 0)));
+    assert!(rt; ended(&rt, other.undo(ticket)) == 0);
+    Ok(())
+}
+
+#[test]
+fn a_ticket_wants_an_open_resize(rt: HostRuntime) -> Result<(), Fail> {
+    let mut work = Work::new(rt.alloc(), WORK)?;
+    let a = rule_a(&mut work)?;
+    let no = no(PieceCause::Ticket, 0);
+    let (mut cells, mut others) = ([Cell::free(); CELLS], [Cell::free(); CELLS]);
+    let mut piece = Piece::new(RecordStore::over(&mut cells), NUMBER);
+    let mut other = Piece::new(RecordStore::over(&mut others), NUMBER);
+    piece.lay(1)?;
+    other.lay(1)?;
+    let ticket = other.open(9)?;
+    assert!(rt; piece.grade(&ticket, 0, &a, 1000, work.lists()) == Err(no));
+    let ticket = returned(&rt, piece.keep(ticket), no);
+    let ticket = returned(&rt, piece.undo(ticket), no);
+    assert!(rt; ended(&rt, other.undo(ticket)) == 0);
+    Ok(())
+}
+
+#[test]
+fn a_point_past_the_last_is_refused(rt: HostRuntime) -> Result<(), Fail> {
+    let mut work = Work::new(rt.alloc(), WORK)?;
+    let a = rule_a(&mut work)?;
+    let mut cells = [Cell::free(); CELLS];
+    let mut piece = Piece::new(RecordStore::over(&mut cells), NUMBER);
+    assert!(rt; matches!(piece.show(0), Err(fault) if fault == no(PieceCause::Point, 0)));
+    piece.lay(2)?;
+    assert!(rt; matches!(piece.show(2), Err(fault) if fault == no(PieceCause::Point, 2)));
+    let ticket = piece.open(4)?;
+    let answer = piece.grade(&ticket, 2, &a, 1000, work.lists());
+    assert!(rt; answer == Err(no(PieceCause::Point, 2)));
+    assert!(rt; ended(&rt, piece.undo(ticket)) == 0);
+    Ok(())
+}
+
+// The need of rule A is 2, beside the location of the point.
+#[test]
+fn a_grade_wants_room(rt: HostRuntime) -> Result<(), Fail> {
+    let mut work = Work::new(rt.alloc(), WORK)?;
+    let a = rule_a(&mut work)?;
+    for (count, due) in [(2, Err(no(PieceCause::Room, 0))), (3, given(5))] {
+        let mut cells = vec![in rt.alloc(); Cell::free(); count]?;
+        let mut piece = Piece::new(RecordStore::over(&mut cells), NUMBER);
+        piece.lay(1)?;
+        let ticket = piece.open(4)?;
+        assert!(rt;
+            piece.grade(&ticket, 0, &a, 1000, work.lists()) == due,
+            "{count}"
+        );
+        assert!(rt; ended(&rt, piece.undo(ticket)) == 0);
+    }
+    Ok(())
+}
+
+// ---- what comes from below a grade, with the point; a refused grade changes nothing
+
+// A grade of the second of two points at the highest step is refused, and then the piece is as before: the shifts and the
+// step are shown, and neither point is graded.
+fn second_point_refused(
+    rt: &impl Abort,
+    work: &mut Work,
+    short: &mut Work,
+    allowance: u32,
+    due: Fault,
+) -> Result<(), Fail> {
+    let a = rule_a(work)?;
+    let mut cells = [Cell::free(); CELLS];
+    let mut piece = Piece::new(RecordStore::over(&mut cells), NUMBER);
+    piece.lay(2)?;
+    let ticket = piece.open(4)?;
+    assert!(rt; piece.grade(&ticket, 0, &a, 1000, work.lists()) == given(5));
+    assert!(rt; piece.grade(&ticket, 1, &a, 1000, work.lists()) == given(5));
+    assert!(rt; ended(rt, piece.keep(ticket)) == 4);
+    let ticket = piece.open(2147483647)?;
+    let answer = piece.grade(&ticket, 1, &a, allowance, short.lists());
+    assert!(rt; answer == Err(due.at_point(1)));
+    assert!(rt; shows(&piece, 0, (5, 4)) && shows(&piece, 1, (5, 4)));
+    let ticket = returned(rt, piece.keep(ticket), no(PieceCause::Ungraded, 0));
+    assert!(rt; ended(rt, piece.undo(ticket)) == 4);
+    Ok(())
+}
+
+// Rule A has 4 nodes, so each list wants 6 records; its sum is node 2, and its command node 3.
+#[test]
+fn a_refused_grade_changes_nothing(rt: HostRuntime) -> Result<(), Fail> {
+    let mut work = Work::new(rt.alloc(), WORK)?;
+    let lists = Fault::new(TableCause::WorkLists.into(), 0);
+    let sum = Fault::new(RunCause::Sum.into(), 2);
+    let unit = Fault::new(RunCause::Unit.into(), 3);
+    for (count, allowance, due) in [(5, 1000, lists), (6, 1000, sum), (6, 0, unit)] {
+        let mut short = Work::new(rt.alloc(), count)?;
+        second_point_refused(&rt, &mut work, &mut short, allowance, due)?;
+    }
+    Ok(())
+}
+
+// ---- the sample lines
+
+// The answer of check if it refuses the table, else of a grade of a piece of one point, at the sample's step.
+fn graded_by_a_piece(rt: &impl Abort, work: &mut Work, sample: Sample) -> Result<Graded, Fault> {
+    let rule = work.accept(sample.nodes)?;
+    let mut cells = [Cell::free(); CELLS];
+    let mut piece = Piece::new(RecordStore::over(&mut cells), NUMBER);
+    piece.lay(1)?;
+    let ticket = piece.open(sample.step)?;
+    let answer = piece.grade(&ticket, 0, &rule, sample.allowance, work.lists());
+    assert!(rt; ended(rt, piece.undo(ticket)) == 0);
+    answer
+}
+
+// A refusal of the run has the point; one of check has none.
+fn at_first_point(fault: Fault) -> Fault {
+    match fault.layer {
+        Layer::Run(_) => fault.at_point(0),
+        _ => fault,
+    }
+}
+
+#[test]
+fn the_sample_lines_are_answered_as_due(rt: HostRuntime) -> Result<(), Fail> {
+    for sample in sample_lines() {
+        let mut work = Work::new(rt.alloc(), sample.work)?;
+        let answer = graded_by_a_piece(&rt, &mut work, sample);
+        assert!(rt;
+            answer == sample.due.map_err(at_first_point),
+            "{}",
+            sample.name
+        );
+    }
+    Ok(())
+}
