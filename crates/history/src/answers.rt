@@ -2,14 +2,14 @@
 use language::{Graded, Number};
 
 // A point's shift, and the piece's step.
-#[derive(Clone, Copy)]
+#[derive(Clone, Copy, PartialEq, Eq)]
 pub struct Shown {
     pub shift: Number,
     pub step: Number,
 }
 
 // What a call gives if it is not refused, as a value.
-#[derive(Clone, Copy)]
+#[derive(Clone, Copy, PartialEq, Eq)]
 pub enum Answer {
     Laid,
     // the number of the ticket

@@ -5,5 +5,5 @@ mod lists;
 mod pieces;
 mod points;
 
-pub use lists::{Call, Grading, replay};
+pub use lists::{Call, Grading, ReplayLists, replay};
 pub use pieces::{Piece, Returned, Ticket};

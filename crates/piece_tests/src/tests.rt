@@ -1,10 +1,10 @@
 // Calls of pieces on both stores, with the answers that the documents give.
 use byte_store::ByteStore;
-use history::Shown;
+use history::{Answer, Shown};
 use language::{
     Fault, Graded, Layer, Node, Number, PieceCause, RunCause, Scalar, TableCause, Value,
 };
-use piece::{Piece, Returned, Ticket};
+use piece::{Call, Grading, Piece, ReplayLists, Returned, Ticket, replay};
 use record_store::{Cell, RecordStore};
 use rule::{CheckLists, Entry, Rule, check};
 use run::{Binding, Level, RunLists};
@@ -58,6 +58,18 @@ impl Work {
         RunLists {
             lens: &mut self.lens,
             names: &mut self.names,
+            levels: &mut self.levels,
+        }
+    }
+}
+
+impl Work {
+    fn replay_lists(&mut self) -> ReplayLists<'_, '_, '_, '_, '_> {
+        ReplayLists {
+            lens: &mut self.lens,
+            names: &mut self.entries,
+            types: &mut self.types,
+            bindings: &mut self.names,
             levels: &mut self.levels,
         }
     }
@@ -158,6 +170,27 @@ fn an_undo_after_a_refused_keep(rt: HostRuntime) -> Result<(), Fail> {
 }
 
 // ---- the refusals, in the order of the calls
+
+#[test]
+fn each_refusal_has_its_number(rt: HostRuntime) -> Result<(), Fail> {
+    let layers = [
+        (Layer::Table(TableCause::WorkLists), 2),
+        (Layer::Piece(PieceCause::NotBare), 12),
+        (Layer::Piece(PieceCause::Points), 13),
+        (Layer::Piece(PieceCause::Store), 14),
+        (Layer::Piece(PieceCause::NotReady), 15),
+        (Layer::Piece(PieceCause::Ticket), 16),
+        (Layer::Piece(PieceCause::Point), 17),
+        (Layer::Piece(PieceCause::Room), 18),
+        (Layer::Run(RunCause::Sum), 19),
+        (Layer::Run(RunCause::Unit), 20),
+        (Layer::Piece(PieceCause::Ungraded), 21),
+    ];
+    for (layer, number) in layers {
+        assert!(rt; layer.number() == number, "{number}");
+    }
+    Ok(())
+}
 
 #[test]
 fn a_lay_is_refused(rt: HostRuntime) -> Result<(), Fail> {
@@ -373,5 +406,46 @@ fn the_sample_lines_are_answered_as_due(rt: HostRuntime) -> Result<(), Fail> {
             sample.name
         );
     }
+    Ok(())
+}
+
+// ---- a list of calls, as values
+
+#[test]
+fn a_replay_answers_each_call(rt: HostRuntime) -> Result<(), Fail> {
+    let mut work = Work::new(rt.alloc(), WORK)?;
+    let mut cells = [Cell::free(); CELLS];
+    let unused = Err(no(PieceCause::Store, 0));
+    let mut answers = [unused; 7];
+    let calls = [
+        Call::Lay(2),
+        Call::Open(4),
+        Call::Grade(Grading {
+            ticket: NUMBER,
+            point: 0,
+            table: 0,
+            allowance: 1000,
+        }),
+        Call::Keep(NUMBER),
+        Call::Undo(NUMBER),
+        Call::Show(0),
+    ];
+    let count = replay(
+        RecordStore::over(&mut cells),
+        NUMBER,
+        &[sample_lines()[0].nodes],
+        &calls,
+        &mut answers,
+        work.replay_lists(),
+    );
+    let shown = Shown { shift: 0, step: 0 };
+    assert!(rt; count == 6);
+    assert!(rt; answers[0] == Ok(Answer::Laid));
+    assert!(rt; answers[1] == Ok(Answer::Ticket(NUMBER)));
+    assert!(rt; answers[2] == Ok(Answer::Graded(Graded { shift: 5, units: 1 })));
+    assert!(rt; answers[3] == Err(no(PieceCause::Ungraded, 1)));
+    assert!(rt; answers[4] == Ok(Answer::Undone(0)));
+    assert!(rt; answers[5] == Ok(Answer::Shown(shown)));
+    assert!(rt; answers[6] == unused);
     Ok(())
 }
