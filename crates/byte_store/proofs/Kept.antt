@@ -5,7 +5,7 @@ use Rattle.language.specs.declared.values.Value.{Value}
 use Rattle.language.specs.Memory.{Memory, put, one, live}
 use Rattle.language.specs.Counting.{below_all, below_gap, live_put, one_some, put_here, put_apart}
 use Rattle.byte_store.specs.Layout.{cells, meaning, WellFormed}
-use Rattle.byte_store.specs.Free.{AllHeld, NextFree, FreeWithin, Chosen}
+use Rattle.byte_store.specs.Free.{AllHeld, NextFree, FreeWithin, Chosen, Room}
 use Rattle.byte_store.specs.Laws.{live_within, live_counted}
 
 pub live_full : (bytes : List ℕ) → ((q : ℕ) → q < cells bytes → is_some (meaning bytes q) ≡ true) → live (meaning bytes) ≡ cells bytes
@@ -38,6 +38,13 @@ within_freed n f l a b lt h = (
   λ q in'. ap is_some (put_apart f l None q (λ e. omega (arith, in'.1))) ∙ h.1 q (in'.0, omega (arith, in'.1)),
   λ q in'. ap is_some (put_apart f l None q (λ e. omega (arith, in'.0))) ∙ h.2 q (omega (arith, in'.0), in'.1),
 )
+
+-- what the search answers says of the count
+pub room : (xs : List ℕ) (start a b : ℕ) (r : Option ℕ) → Chosen (cells xs) (meaning xs) start a b r → Room (cells xs) (meaning xs) r
+room xs start a b None h = live_full xs (λ q lt. h.0 q (omega arith, lt))
+room xs start a b (Some l) h =
+    let next = next_within (cells xs) (meaning xs) start l h.0 in
+    (next.0, next.1, live_gap xs l next.0 next.1)
 
 -- what the store keeps true of its bytes, its count and its window
 abbrev pub Kept : List ℕ → (count a b : ℕ) → Type 0

@@ -126,3 +126,7 @@ module _ (xs : List ℕ) where
 
   pub formed_cleared : WellFormed (cleared xs)
   formed_cleared q lt = cell_cleared q (omega (arith, cells_cleared)) ∙ sym (ap cell_bytes (none q))
+
+-- two calls, one after the other
+pub rest_kept_twice : (xs ys zs : List ℕ) → cells ys ≡ cells xs → RestKept xs ys → RestKept ys zs → RestKept xs zs
+rest_kept_twice xs ys zs same first second = ap (λ n. drop (cell_size * n) zs) (sym same) ∙ second ∙ ap (λ n. drop (cell_size * n) ys) same ∙ first

@@ -18,3 +18,4 @@ pub mod Runs
 pub mod Laws
 pub mod Check
 pub mod Outcome
+pub mod Printed

@@ -153,6 +153,10 @@ impl Fault {
 
 // The answer as it is printed: that it is none, the number of the question that said no, and the place.
 impl fmt::Display for Fault {
+    ghost use Rattle.language.specs.Printed.{fault_text};
+
+    ghost output = { λ fault. Some (fault_text fault) };
+
     fn fmt<W: fmt::Write>(&self, f: &mut fmt::Formatter<W>) -> fmt::Result {
         write!(f, "no {} {}", self.layer.number(), self.place)
     }

@@ -52,6 +52,11 @@ impl Value {
 }
 
 impl fmt::Display for Value {
+    ghost use Rattle.std.specs.Prelude.{Some};
+    ghost use Rattle.language.specs.Printed.{value_text};
+
+    ghost output = { λ value. Some (value_text value) };
+
     fn fmt<W: fmt::Write>(&self, f: &mut fmt::Formatter<W>) -> fmt::Result {
         match self {
             Value::Truth(truth) => write!(f, "{truth}"),
@@ -80,6 +85,11 @@ pub struct Graded {
 
 // The answer as it is printed: that it is one, the shift and the units.
 impl fmt::Display for Graded {
+    ghost use Rattle.std.specs.Prelude.{Some};
+    ghost use Rattle.language.specs.Printed.{graded_text};
+
+    ghost output = { λ graded. Some (graded_text graded) };
+
     fn fmt<W: fmt::Write>(&self, f: &mut fmt::Formatter<W>) -> fmt::Result {
         write!(f, "ok {} {}", self.shift, self.units)
     }

@@ -36,11 +36,10 @@ use Rattle.history.specs.States.{Accepted, State, Mode, Reply, laid, opened, hol
 use Rattle.history.specs.Promise.{Tells}
 use Rattle.run.specs.Answers.{run_answer, Runnable, RunGives}
 use Rattle.piece.specs.Runs.{from_below, below, run_in, new_step, RanOn}
-use Rattle.piece.specs.Views.{locations, shifts, remembered, marks, mode_of, Counted, mode_with_shift, with_shift, said, ticket_answer}
-use Rattle.piece.specs.Piece.{laid_points, view}
+use Rattle.piece.specs.Views.{locations, shifts, remembered, marks, mode_of, Counted, laid_points, view, Sound, mode_with_shift, with_shift, said, ticket_answer}
 use Rattle.history.proofs.Held.{holding_set}
 use Rattle.piece.proofs.Passes.{blank, writes}
-use Rattle.piece.proofs.Seen.{Sound, done, refuses, long, ticket_good, holds_shift, shifts_held}
+use Rattle.piece.proofs.Seen.{done, refuses, long, ticket_good, holds_shift, shifts_held}
 use Rattle.history.proofs.Plain.{never, some_same}
 
 -- the questions of a run, in order, and then what it comes to
@@ -58,7 +57,11 @@ pub record Ran (r : Accepted) (limit : ℕ) (σ : Memory) (w : ℕ × ℕ × ℕ
 abbrev pub graded_point : Point → Point
 graded_point x = record { location = x.location; remembered = x.remembered; graded = true }
 
-module _ {S : Type 0} (g : Ghosts S) (p : Piece S g) (wide : length p.points ≡ 256) (k : ℕ) (lt : k < p.laid) where
+module _ {S : Type 0} where
+  abbrev pub graded_piece : Piece S → S → ℕ → Piece S
+  graded_piece p s k = record { store = s; number = p.number; step = p.step; phase = p.phase; laid = p.laid; points = set p.points k (graded_point (get_or p.points k blank)) }
+
+module _ {S : Type 0} (g : Ghosts S) (p : Piece S) (s : Sound g p) (k : ℕ) (lt : k < p.laid) where
   abbrev σ : Memory
   σ = g.at p.store
 
@@ -72,7 +75,7 @@ module _ {S : Type 0} (g : Ghosts S) (p : Piece S g) (wide : length p.points ≡
   qs = take p.laid (set p.points k (graded_point x))
 
   in_ps : k < length ps
-  in_ps = subst (λ n. k < n) (sym (long g p wide)) lt
+  in_ps = subst (λ n. k < n) (sym (long g p s)) lt
 
   the_point : x ≡ get_or ps k blank
   the_point = sym (get_or-take p.laid p.points k blank lt)
@@ -96,18 +99,18 @@ module _ {S : Type 0} (g : Ghosts S) (p : Piece S g) (wide : length p.points ≡
   marked = ap marks changed ∙ map-set (λ (y : Point). y.graded) ps k (graded_point x)
 
   pub shift_writes : (z : ℤ) (r : Result (Unit {0}) WriteRefusal) → r ≡ write_answer (σ x.location) (whole_value z) → IsOk r
-  shift_writes z r q = writes r (σ x.location) _ z q (holds_shift g p wide k lt)
+  shift_writes z r q = writes r (σ x.location) _ z q (holds_shift g p s k lt)
 
   module _ (s' : S) (z : ℤ) (limit : g.bound s' ≡ g.bound p.store) (after : g.at s' ≡ put σ x.location (Some (whole_value z))) where
     now_held : σ ≡ holding (locations ps) (shifts σ ps) → g.at s' ≡ holding (locations ps) (set (shifts σ ps) k z)
     now_held h =
         after
         ∙ ap₂ (λ (τ : Memory) (l : ℕ). put τ l (Some (whole_value z))) h (ap (λ (y : Point). y.location) the_point ∙ sym (get_or-map (λ (y : Point). y.location) ps k blank 0 in_ps))
-        ∙ holding_set (locations ps) (shifts σ ps) k z p.apart (length-map ps _ ∙ sym (length-map ps _)) (subst (λ n. k < n) (sym (length-map ps _)) in_ps)
+        ∙ holding_set (locations ps) (shifts σ ps) k z s.apart (length-map ps _ ∙ sym (length-map ps _)) (subst (λ n. k < n) (sym (length-map ps _)) in_ps)
 
     now_shown : σ ≡ holding (locations ps) (shifts σ ps) → shifts (g.at s') qs ≡ set (shifts σ ps) k z
     now_shown h =
-        shifts_held (g.at s') qs (set (shifts σ ps) k z) (subst Free (sym located) p.apart)
+        shifts_held (g.at s') qs (set (shifts σ ps) k z) (subst Free (sym located) s.apart)
         (length-set (shifts σ ps) k z ∙ length-map ps _ ∙ sym (length-set ps k (graded_point x)) ∙ ap length (sym changed))
         (now_held h ∙ ap (λ (ls : List ℕ). holding ls (set (shifts σ ps) k z)) (sym located))
 
@@ -124,11 +127,10 @@ module _ {S : Type 0} (g : Ghosts S) (p : Piece S g) (wide : length p.points ≡
           ∙ ap₂ (λ (bs : List ℤ) (gs : List Bool). opened t (locations ps) (set (shifts σ ps) k z) bs gs) kept marked,
     )
 
-    pub put_shift : Sound p.phase p.laid (g.at s') (set p.points k (graded_point x))
-        × (◌≡◌ {A = State} (record { number = p.number; limit = g.bound s'; step = p.step; mode = mode_of p.phase (g.at s') qs }) (with_shift (view g p) k z))
+    pub put_shift : Sound g (graded_piece p s' k) × (view g (graded_piece p s' k) ≡ with_shift (view g p) k z)
     put_shift =
-        let r = put_in p.phase p.counted p.held in (
-          record { counted = p.counted; apart = subst Free (sym located) p.apart; held = r.0 },
+        let r = put_in p.phase s.counted s.held in (
+          record { wide = length-set p.points k _ ∙ s.wide; counted = s.counted; apart = subst Free (sym located) s.apart; held = r.0 },
           ap₂ (λ (n : ℕ) (m : Mode). record { number = p.number; limit = n; step = p.step; mode = m }) limit r.1,
         )
 
@@ -173,7 +175,7 @@ module _ (s : State) (k : ℕ) (t : ℤ) (ls : List ℕ) (zs bs : List ℤ) (gs 
   told_of true false y x v q r = let z = ap (λ (u : Result Graded Fault). run_in (below k u)) (some_same q) in let w : None ≡ Some v = sym z ∙ r in never (cc)
   told_of false b₂ y x v q r = let z = ap (λ (u : Result Graded Fault). run_in (below k u)) (some_same q) in let w : None ≡ Some v = sym z ∙ r in never (cc)
 
-module _ {S : Type 0} (g : Ghosts S) (p : Piece S g) (wide : length p.points ≡ 256) (t : ℤ) (e : p.phase ≡ Open t) (m k : ℕ) (same : m ≡ p.number) where
+module _ {S : Type 0} (g : Ghosts S) (p : Piece S) (s : Sound g p) (t : ℤ) (e : p.phase ≡ Open t) (m k : ℕ) (same : m ≡ p.number) where
   abbrev rows : List Point
   rows = laid_points p
 
@@ -184,7 +186,7 @@ module _ {S : Type 0} (g : Ghosts S) (p : Piece S g) (wide : length p.points ≡
   seen_open = ap (λ (x : Phase). mode_of x held rows) e
 
   store_is : held ≡ holding (locations rows) (shifts held rows)
-  store_is = p.held ∙ ap store_of seen_open
+  store_is = s.held ∙ ap store_of seen_open
 
   ours : eqb m p.number ≡ true
   ours = eq-eqb m _ same
@@ -195,7 +197,7 @@ module _ {S : Type 0} (g : Ghosts S) (p : Piece S g) (wide : length p.points ≡
 
     pub grade_comes : does [] (view g p) (calls.grade m k r a w) ≡ after_run (view g p) k x
     grade_comes =
-        let below_all : ltb k (length (shifts held rows)) ≡ true = lt-ltb k _ (subst (λ n. k < n) (sym (length-map rows _ ∙ long g p wide)) lt) in
+        let below_all : ltb k (length (shifts held rows)) ≡ true = lt-ltb k _ (subst (λ n. k < n) (sym (length-map rows _ ∙ long g p s)) lt) in
         let q : asked_run r (g.bound p.store) (holding (locations rows) (shifts held rows)) w t a ≡ Some x = subst (λ (τ : Memory). asked_run r (g.bound p.store) τ w t a ≡ Some x) store_is ran.answers in
         ap (does_grade (view g p) m k r a w) seen_open
         ∙ simp (ours, below_all) (comes (view g p) k t (locations rows) (shifts held rows) (remembered rows) (marks rows) seen_open
@@ -206,7 +208,7 @@ module _ {S : Type 0} (g : Ghosts S) (p : Piece S g) (wide : length p.points ≡
         let (fits, room, is_x) = told_of (view g p) k t (locations rows) (shifts held rows) (remembered rows) (marks rows) seen_open
         (lists_fit r w) (leb (live held + r.need) (g.bound p.store)) (answer r.tree t a) x y ran.answers (ap run_in (sym ev) ∙ q) in
         let (o, runs_so, tells) = ran.run fits (leb-true _ _ room) in
-        subst (λ (τ : Memory). (o : Out ℤ) × runs (g.bound p.store) r.tree (new_step (view g p).mode) τ a o × Tells y a τ o) p.held
+        subst (λ (τ : Memory). (o : Out ℤ) × runs (g.bound p.store) r.tree (new_step (view g p).mode) τ a o × Tells y a τ o) s.held
         (subst⁻¹ (λ (u : ℤ). (o : Out ℤ) × runs (g.bound p.store) r.tree u held a o × Tells y a held o) (ap new_step seen_open)
         (subst⁻¹ (λ (z : Result Graded Fault). (o : Out ℤ) × runs (g.bound p.store) r.tree t held a o × Tells z a held o) is_x (o, runs_so, tells)))
 
@@ -222,11 +224,18 @@ module _ {S : Type 0} (g : Ghosts S) (p : Piece S g) (wide : length p.points ≡
         go (Ok y) n d = never (cc)
         go (Err h) n d = let z : f ≡ from_below k h h.layer = cc in refuses d (ap (said answers.Graded) q ∙ ap (λ (y : Fault). Err y) z) refl
 
--- the state that callers see where the store is another of the same meaning
-pub same_seen : {S : Type 0} (g : Ghosts S) (p : Piece S g) (s' : S) → g.bound s' ≡ g.bound p.store → g.at s' ≡ g.at p.store
-    → ◌≡◌ {A = State} (record { number = p.number; limit = g.bound s'; step = p.step; mode = mode_of p.phase (g.at s') (laid_points p) }) (view g p)
-same_seen g p s' limit same =
-    ap₂ (λ (n : ℕ) (τ : Memory). record { number = p.number; limit = n; step = p.step; mode = mode_of p.phase τ (laid_points p) }) limit same
+module _ {S : Type 0} where
+  abbrev pub with_store : Piece S → S → Piece S
+  with_store p s = record { store = s; number = p.number; step = p.step; phase = p.phase; laid = p.laid; points = p.points }
+
+-- another store of the same meaning
+pub stored : {S : Type 0} (g : Ghosts S) (p : Piece S) → Sound g p → (s' : S) → g.bound s' ≡ g.bound p.store → g.at s' ≡ g.at p.store
+    → Sound g (with_store p s') × (view g (with_store p s') ≡ view g p)
+stored g p s s' limit same =
+    let m : mode_of p.phase (g.at s') (laid_points p) ≡ mode_of p.phase (g.at p.store) (laid_points p) = ap (λ (τ : Memory). mode_of p.phase τ (laid_points p)) same in (
+      record { wide = s.wide; counted = s.counted; apart = s.apart; held = same ∙ s.held ∙ ap store_of (sym m) },
+      ap₂ (λ (n : ℕ) (x : Mode). record { number = p.number; limit = n; step = p.step; mode = x }) limit m,
+    )
 
 -- the contract of a run, said of an accepted rule
 needed : (r : Accepted) (nodes : List Node) (need : ℕ) → r.table ≡ nodes → accepted nodes need ≡ true → r.need ≡ need
@@ -273,7 +282,7 @@ module _ (r : Accepted) (limit : ℕ) (σ : Memory) (w : ℕ × ℕ × ℕ) (ste
       (subst⁻¹ (λ (m : ℕ). (c : Com) → Runnable nodes m w.0 w.1 w.2 limit (live σ) c → RunGives limit c step σ a y) n gives))
 
 -- a grade by an accepted table, whose run came to x and left a store of the same meaning
-module _ {S : Type 0} (g : Ghosts S) (p : Piece S g) (wide : length p.points ≡ 256) (t u : ℤ) (m k a : ℕ) (w : ℕ × ℕ × ℕ) (nodes : List Node) (need : ℕ) (x : Result Graded Fault) (s' : S) where
+module _ {S : Type 0} (g : Ghosts S) (p : Piece S) (s : Sound g p) (t u : ℤ) (m k a : ℕ) (w : ℕ × ℕ × ℕ) (nodes : List Node) (need : ℕ) (x : Result Graded Fault) (s' : S) where
   -- what each grade by this table does and tells
   abbrev pub ByTable : Reply → State → Result Graded Fault → Type 0
   ByTable reply after v =
@@ -281,7 +290,7 @@ module _ {S : Type 0} (g : Ghosts S) (p : Piece S g) (wide : length p.points ≡
       × ((r : Accepted) → r.table ≡ nodes → RanOn (view g p) r a v)
 
   abbrev between : State
-  between = record { number = p.number; limit = g.bound s'; step = p.step; mode = mode_of p.phase (g.at s') (laid_points p) }
+  between = view g (with_store p s')
 
   module _ (good : Ok t ≡ ticket_answer p.phase p.number m) (lt : k < p.laid) (eu : u ≡ t) (ok : accepted nodes need ≡ true) (within : live (g.at p.store) ≤ g.bound p.store)
       (says : Some x ≡ run_answer nodes need u a w.0 w.1 w.2 (g.bound p.store) (live (g.at p.store)))
@@ -296,13 +305,13 @@ module _ {S : Type 0} (g : Ghosts S) (p : Piece S g) (wide : length p.points ≡
     pub grade_refused : (v : Result Graded Fault) (f : Fault) → v ≡ below k x → v ≡ Err f → ByTable (said answers.Graded v) between v
     grade_refused v f ev e = (
       λ r et.
-          subst (λ (q : State). Does (view g p) (calls.grade m k r a w) (said answers.Graded v) q) (sym (same_seen g p s' limit meaning))
-          (grade_bad g p wide t is_open.0 m k is_open.1 r a w x lt u eu (ran_by r et) v f ev e),
-      λ r et. grade_ran g p wide t is_open.0 m k is_open.1 r a w x lt u eu (ran_by r et) v ev,
+          subst (λ (q : State). Does (view g p) (calls.grade m k r a w) (said answers.Graded v) q) (sym (stored g p s s' limit meaning).1)
+          (grade_bad g p s t is_open.0 m k is_open.1 r a w x lt u eu (ran_by r et) v f ev e),
+      λ r et. grade_ran g p s t is_open.0 m k is_open.1 r a w x lt u eu (ran_by r et) v ev,
     )
 
     pub grade_given : (y : Graded) (after : State) (z : ℤ) → Ok y ≡ below k x → z ≡ y.shift → after ≡ with_shift between k z → ByTable (Ok (answers.Graded y)) after (Ok y)
     grade_given y after z ey ez f = (
-      λ r et. grade_good g p wide t is_open.0 m k is_open.1 r a w x lt u eu (ran_by r et) y after between z ey (same_seen g p s' limit meaning) ez f,
-      λ r et. grade_ran g p wide t is_open.0 m k is_open.1 r a w x lt u eu (ran_by r et) (Ok y) ey,
+      λ r et. grade_good g p s t is_open.0 m k is_open.1 r a w x lt u eu (ran_by r et) y after between z ey (stored g p s s' limit meaning).1 ez f,
+      λ r et. grade_ran g p s t is_open.0 m k is_open.1 r a w x lt u eu (ran_by r et) (Ok y) ey,
     )

@@ -57,7 +57,7 @@ pub placed_more : (σ σ' : Memory) (ps : List Point) (i : ℕ) (x : Point) → 
     → σ' ≡ put σ x.location (Some (whole_value (pos 0))) → Placed σ' (take (i + 1) (set ps i x))
 placed_more σ σ' ps i x p h low new after = subst (Placed σ') (sym (take_more_set ps i x h)) (push σ σ' (take i ps) x p low new after)
 
-placed_room : (σ : Memory) (ps : List Point) (i limit : ℕ) → Placed σ (take i ps) → i ≤ length ps → i < limit → live σ ≡ limit → ⊥
+pub placed_room : (σ : Memory) (ps : List Point) (i limit : ℕ) → Placed σ (take i ps) → i ≤ length ps → i < limit → live σ ≡ limit → ⊥
 placed_room σ ps i limit p h room full =
     let e = placed_live σ (take i ps) p in
     let l = length-take-le i ps h in
@@ -134,6 +134,17 @@ back_all σ₀ σ ps i e h =
     e ∙ ap (holding (locations ps)) (front_all (remembered ps) (shifts σ₀ ps) i (length-map ps _ ∙ sym (length-map ps _)) (subst (λ n. n ≤ i) (sym (length-map ps _)) h))
 
 -- the lowest point that is not graded
+pub none_false : (gs : List Bool) → ((k : ℕ) → k < length gs → get_or gs k false ≡ true) → lowest_false gs ≡ None
+none_false [] h = refl
+none_false (x ∷ gs) h =
+    ap (λ b. cond b (after_true (lowest_false gs)) (Some 0)) (h 0 (omega arith)) ∙ ap after_true (none_false gs (λ k b. h (suc k) (omega arith)))
+
+pub false_at : (gs : List Bool) (i : ℕ) → i < length gs → ((k : ℕ) → k < i → get_or gs k false ≡ true) → get_or gs i false ≡ false → lowest_false gs ≡ Some i
+false_at [] i h b e = absurd (omega arith)
+false_at (x ∷ gs) zero h b e = ap (λ y. cond y (after_true (lowest_false gs)) (Some 0)) e
+false_at (x ∷ gs) (suc i) h b e =
+    ap (λ y. cond y (after_true (lowest_false gs)) (Some 0)) (b 0 (omega arith)) ∙ ap after_true (false_at gs i (omega arith) (λ k l. b (suc k) (omega arith)) e)
+
 further : ℕ → Option ℕ → Option ℕ
 further i None = None
 further i (Some k) = Some (i + k)

@@ -16,7 +16,7 @@ use Rattle.history.proofs.Whole.{always}
 use Rattle.piece.specs.declared.pieces.Piece.{Piece}
 use Rattle.piece.specs.declared.lists.Call.{Call}
 use Rattle.piece.specs.declared.lists.Call.TheVariants.{Lay, Open, Grade, Keep, Undo, Show}
-use Rattle.piece.specs.Piece.{view}
+use Rattle.piece.specs.Views.{view, Sound}
 use Rattle.piece.specs.declared.lists.ReplayLists.{ReplayLists}
 use Rattle.piece.specs.Replay.{table_at, chosen, Lists, checked, check_lengths, run_lengths, SameLengths, Meant, Told, Replayed, start}
 use Rattle.history.proofs.Plain.{never}
@@ -28,6 +28,9 @@ chosen_is (Ok c) (Ok u) nodes found e h good bad = good u h
 chosen_is (Ok c) (Err f) nodes found e h good bad = never (cc)
 chosen_is (Err f) (Ok u) nodes found e h good bad = never (cc)
 chosen_is (Err f) (Err f') nodes found e h good bad = bad f' h
+
+pub triple : {a b c a' b' c' : ℕ} → a ≡ a' → b ≡ b' → c ≡ c' → ◌≡◌ {A = Lists} (a, b, c) (a', b', c')
+triple {a} {b} {c} {a'} {b'} {c'} p q r = ap {B = Lists} (λ x. (x, b, c)) p ∙ ap {B = Lists} (λ x. (a', x, c)) q ∙ ap {B = Lists} (λ x. (a', b', x)) r
 
 -- a grade knows its lists by their lengths alone
 pub grades_alike : {s s' : State} {m k a n n' b v : ℕ} {r : Accepted} {x : Reply} → n ≡ n' → Does s (calls.grade m k r a (n, b, v)) x s' → Does s (calls.grade m k r a (n', b, v)) x s'
@@ -54,37 +57,40 @@ meant ts l w (Undo m) = (calls.undo m, refl)
 meant ts l w (Show k) = (calls.show k, refl)
 
 -- the first i calls are performed on q, with lists as long as the first
-pub record Playing {S : Type 0} (g : Ghosts S) (p : Start) (ts : List (Bor (List Node))) (first lists : ReplayLists) (cs : List Call) (xs : List Reply) (i : ℕ) (q : Piece S g) : Type 0 where
+pub record Playing {S : Type 0} (g : Ghosts S) (p : Start) (ts : List (Bor (List Node))) (first lists : ReplayLists) (cs : List Call) (xs : List Reply) (i : ℕ) (q : Piece S) : Type 0 where
+  pub sound : Sound g q
   pub history : History
   pub told : Told ts (check_lengths first) (run_lengths first) (take i cs) (take i xs) history
   pub reached : Reached p history (view g q)
   pub same : SameLengths first lists
 
 module _ {S : Type 0} (g : Ghosts S) where
-  pub none_played : (s : S) (n : ℕ) (ts : List (Bor (List Node))) (lists : ReplayLists) (cs : List Call) (xs : List Reply) (q : Piece S g)
-      → view g q ≡ fresh n (g.bound s) (g.at s) → q.store ≡ s → Playing g (start g q.store n) ts lists lists cs xs 0 q
-  none_played s n ts lists cs xs q v e = record {
+  pub none_played : (s : S) (n : ℕ) (ts : List (Bor (List Node))) (lists : ReplayLists) (cs : List Call) (xs : List Reply) (q : Piece S)
+      → Sound g q → view g q ≡ fresh n (g.bound s) (g.at s) → q.store ≡ s → Playing g (start g q.store n) ts lists lists cs xs 0 q
+  none_played s n ts lists cs xs q sound v e = record {
+    sound = sound;
     history = [];
     told = (refl, refl);
     reached = v ∙ ap (λ (x : S). fresh n (g.bound x) (g.at x)) (sym e);
     same = (refl, refl);
   }
 
-  pub one_played : (p : Start) (ts : List (Bor (List Node))) (first lists lists' : ReplayLists) (cs : List Call) (xs : List Reply) (i : ℕ) (q q' : Piece S g) (x : Reply) (c d : Call)
-      → Playing g p ts first lists cs xs i q → SameLengths lists lists' → i < length cs → i < length xs → get_or cs i d ≡ c
+  pub one_played : (p : Start) (ts : List (Bor (List Node))) (first lists lists' : ReplayLists) (cs : List Call) (xs : List Reply) (i : ℕ) (q q' : Piece S) (x : Reply) (c d : Call)
+      → Playing g p ts first lists cs xs i q → SameLengths lists lists' → i < length cs → i < length xs → get_or cs i d ≡ c → Sound g q'
       → ((a : calls.Call) → Meant ts (check_lengths lists) (run_lengths lists) c a → Does (view g q) a x (view g q')) → Playing g p ts first lists' cs (set xs i x) (i + 1) q'
-  one_played p ts first lists lists' cs xs i q q' x c d P s hc hx ec does =
+  one_played p ts first lists lists' cs xs i q q' x c d P s hc hx ec sound does =
       let (a, m) = meant ts (check_lengths first) (run_lengths first) c in
       let m' : Meant ts (check_lengths lists) (run_lengths lists) c a =
       subst (λ (v : Lists). Meant ts (check_lengths lists) v c a) (sym P.same.1) (subst (λ (v : Lists). Meant ts v (run_lengths first) c a) (sym P.same.0) m) in
       record {
+        sound = sound;
         history = (a, x) ∷ P.history;
         told = (c, take i cs, take i xs, take_more cs i d hc ∙ ap (λ (v : Call). take i cs ++ v ∷ []) ec, take_more_set xs i x hx, m, P.told);
         reached = (view g q, P.reached, does a m');
         same = (s.0 ∙ P.same.0, s.1 ∙ P.same.1);
       }
 
-  pub all_played : (s s' : S) (k : ℕ) (ts : List (Bor (List Node))) (first lists : ReplayLists) (cs : List Call) (xs rest : List Reply) (i n : ℕ) (q : Piece S g)
+  pub all_played : (s s' : S) (k : ℕ) (ts : List (Bor (List Node))) (first lists : ReplayLists) (cs : List Call) (xs rest : List Reply) (i n : ℕ) (q : Piece S)
       → Playing g (start g s k) ts first lists cs xs i q → s ≡ s' → i ≡ n → length xs ≡ n
       → Replayed (start g s' k) ts (check_lengths first) (run_lengths first) (take n cs) (take n (xs ++ rest))
   all_played s s' k ts first lists cs xs rest i n q P es e ex =

@@ -18,10 +18,9 @@ use Rattle.piece.specs.declared.points.Point.{Point}
 use Rattle.piece.specs.declared.pieces.Phase.{Phase}
 use Rattle.piece.specs.declared.pieces.Phase.TheVariants.{Bare, Laid, Open}
 use Rattle.piece.specs.declared.pieces.Piece.{Piece}
-use Rattle.history.specs.States.{Call, State, Mode, Reply, bare, laid, opened, shifts_of, holding, store_of, Free, with_mode, Outcome, answers_with, refuses_with, shown, does_lay, does_open, does_undo, does_show, does, Does}
+use Rattle.history.specs.States.{Call, State, Reply, bare, laid, opened, shifts_of, holding, store_of, Free, with_mode, Outcome, answers_with, refuses_with, shown, does_lay, does_open, does_undo, does_show, does, Does}
 use Rattle.history.specs.States as calls
-use Rattle.piece.specs.Views.{shift_in, HoldsShift, AllHoldShifts, locations, shifts, remembered, marks, remembering, Placed, mode_of, Counted, ticket_answer}
-use Rattle.piece.specs.Piece.{laid_points, view}
+use Rattle.piece.specs.Views.{shift_in, HoldsShift, AllHoldShifts, locations, shifts, remembered, marks, remembering, Placed, mode_of, Counted, laid_points, view, Sound, ticket_answer}
 use Rattle.history.proofs.Held.{held_at}
 use Rattle.piece.proofs.Passes.{blank}
 use Rattle.history.proofs.Plain.{never}
@@ -84,7 +83,7 @@ all_whole : (σ : Memory) (ps : List Point) → ((k : ℕ) → k < length ps →
 all_whole σ [] h = tt
 all_whole σ (x ∷ ps) h = (h 0 (omega arith), all_whole σ ps (λ k lt. h (suc k) (omega arith)))
 
-module _ {S : Type 0} (g : Ghosts S) (p : Piece S g) (wide : length p.points ≡ 256) where
+module _ {S : Type 0} (g : Ghosts S) (p : Piece S) (s : Sound g p) where
   abbrev σ : Memory
   σ = g.at p.store
 
@@ -92,22 +91,22 @@ module _ {S : Type 0} (g : Ghosts S) (p : Piece S g) (wide : length p.points ≡
   ps = laid_points p
 
   pub enough : p.laid ≤ length p.points
-  enough = let f = few p.phase p.laid p.counted in let w = wide in omega arith
+  enough = let f = few p.phase p.laid s.counted in let w = s.wide in omega arith
 
   pub long : length ps ≡ p.laid
   long = length-take-le p.laid p.points enough
 
   held_in : (ph : Phase) → Counted ph p.laid → σ ≡ store_of (mode_of ph σ ps) → (k : ℕ) → k < p.laid → HoldsShift σ (get_or ps k blank).location
   held_in Bare c h k lt = absurd (omega arith)
-  held_in Laid c h k lt = whole_at σ ps (shifts σ ps) k p.apart (length-map ps _) h (subst (λ n. k < n) (sym long) lt)
-  held_in (Open t) c h k lt = whole_at σ ps (shifts σ ps) k p.apart (length-map ps _) h (subst (λ n. k < n) (sym long) lt)
+  held_in Laid c h k lt = whole_at σ ps (shifts σ ps) k s.apart (length-map ps _) h (subst (λ n. k < n) (sym long) lt)
+  held_in (Open t) c h k lt = whole_at σ ps (shifts σ ps) k s.apart (length-map ps _) h (subst (λ n. k < n) (sym long) lt)
 
   pub holds_shift : (k : ℕ) → k < p.laid → HoldsShift σ (get_or p.points k blank).location
   holds_shift k lt =
-      subst (λ (x : Point). HoldsShift σ x.location) (get_or-take p.laid p.points k blank lt) (held_in p.phase p.counted p.held k lt)
+      subst (λ (x : Point). HoldsShift σ x.location) (get_or-take p.laid p.points k blank lt) (held_in p.phase s.counted s.held k lt)
 
   pub all_hold : AllHoldShifts σ ps
-  all_hold = all_whole σ ps (λ k lt. held_in p.phase p.counted p.held k (subst (λ n. k < n) long lt))
+  all_hold = all_whole σ ps (λ k lt. held_in p.phase s.counted s.held k (subst (λ n. k < n) long lt))
 
   seen_in : (ph : Phase) → Counted ph p.laid → shifts_of (mode_of ph σ ps) ≡ shifts σ ps
   seen_in Bare c = sym (ap (λ (qs : List Point). shifts σ qs) (nil_from_length ps (long ∙ c)))
@@ -115,7 +114,7 @@ module _ {S : Type 0} (g : Ghosts S) (p : Piece S g) (wide : length p.points ≡
   seen_in (Open t) c = refl
 
   seen : shifts_of (view g p).mode ≡ shifts σ ps
-  seen = seen_in p.phase p.counted
+  seen = seen_in p.phase s.counted
 
   pub shows : (k : ℕ) (v t : ℤ) → k < p.laid → v ≡ shift_in (σ (get_or p.points k blank).location) → t ≡ p.step → Does (view g p) (calls.show k) (Ok (shown v t)) (view g p)
   shows k v t lt ev et =
@@ -126,33 +125,30 @@ module _ {S : Type 0} (g : Ghosts S) (p : Piece S g) (wide : length p.points ≡
       let d : does_show (view g p) k (shifts σ ps) ≡ answers_with (shown (get_or (shifts σ ps) k (pos 0)) p.step) (view g p) = rw below refl in
       done (ap (does_show (view g p) k) seen ∙ d) (λ q. never (cc)) (ap₂ (λ (z u : ℤ). Ok (shown z u)) (ev ∙ sym at) et) refl
 
--- the facts of a piece, of its fields
-pub record Sound (ph : Phase) (n : ℕ) (σ : Memory) (points : List Point) : Type 0 where
-  pub counted : Counted ph n
-  pub apart : Free (locations (take n points))
-  pub held : σ ≡ store_of (mode_of ph σ (take n points))
+module _ {S : Type 0} where
+  abbrev pub laid_piece : Piece S → S → ℕ → List Point → Piece S
+  laid_piece p s n qs = record { store = s; number = p.number; step = p.step; phase = Laid; laid = n; points = qs }
 
-module _ {S : Type 0} (g : Ghosts S) (p : Piece S g) (wide : length p.points ≡ 256) where
-  -- the state that this piece's callers see where its phase, store and laid points are these
-  abbrev seen_as : S → Phase → List Point → State
-  seen_as s' ph qs = record { number = p.number; limit = g.bound s'; step = p.step; mode = mode_of ph (g.at s') qs }
+  abbrev pub open_piece : Piece S → ℤ → List Point → Piece S
+  open_piece p t qs = record { store = p.store; number = p.number; step = p.step; phase = Open t; laid = p.laid; points = qs }
 
+module _ {S : Type 0} (g : Ghosts S) (p : Piece S) (s : Sound g p) where
   -- a piece whose store holds these shifts at its points' locations
   sound_laid : (s' : S) (n : ℕ) (qs : List Point) (zs : List ℤ) → length qs ≡ 256 → 1 ≤ n → n ≤ 256 → Free (locations (take n qs)) → length zs ≡ n
-      → g.at s' ≡ holding (locations (take n qs)) zs → Sound Laid n (g.at s') qs × (shifts (g.at s') (take n qs) ≡ zs)
+      → g.at s' ≡ holding (locations (take n qs)) zs → Sound g (laid_piece p s' n qs) × (shifts (g.at s') (take n qs) ≡ zs)
   sound_laid s' n qs zs w low high f e h =
       let same = shifts_held (g.at s') (take n qs) zs f (e ∙ sym (length-take-le n qs (omega arith))) h in (
-        record { counted = (low, high); apart = f; held = h ∙ ap (holding (locations (take n qs))) (sym same) },
+        record { wide = w; counted = (low, high); apart = f; held = h ∙ ap (holding (locations (take n qs))) (sym same) },
         same,
       )
 
   pub laid_all : (s' : S) (n : ℕ) (qs : List Point) → p.phase ≡ Bare → 1 ≤ n → n ≤ 256 → live (g.at p.store) ≡ 0 → n ≤ g.bound p.store → length qs ≡ 256
       → g.bound s' ≡ g.bound p.store → Placed (g.at s') (take n qs)
-      → Sound Laid n (g.at s') qs × Does (view g p) (calls.lay n) (Ok answers.Laid) (seen_as s' Laid (take n qs))
+      → Sound g (laid_piece p s' n qs) × Does (view g p) (calls.lay n) (Ok answers.Laid) (view g (laid_piece p s' n qs))
   laid_all s' n qs e low high empty room w same pl =
       let ls = locations (take n qs) in
       let l : length (take n qs) ≡ n = length-take-le n qs (omega arith) in
-      let r : Sound Laid n (g.at s') qs × (shifts (g.at s') (take n qs) ≡ replicate n (pos 0)) =
+      let r : Sound g (laid_piece p s' n qs) × (shifts (g.at s') (take n qs) ≡ replicate n (pos 0)) =
       sound_laid s' n qs (replicate n (pos 0)) w low high pl.free (length-replicate n (pos 0)) (pl.held ∙ ap (λ m. holding ls (replicate m (pos 0))) l) in
       let a : leb 1 n ≡ true = le-leb 1 n low in
       let b : leb n 256 ≡ true = le-leb n 256 high in
@@ -176,19 +172,19 @@ module _ {S : Type 0} (g : Ghosts S) (p : Piece S g) (wide : length p.points ≡
   some_points (Open t) n c = c
 
   pub opened_all : (t t' : ℤ) (qs : List Point) → t' ≡ t → p.phase ≡ Laid → length qs ≡ 256 → take p.laid qs ≡ map (remembering (g.at p.store)) (laid_points p)
-      → Sound (Open t') p.laid (g.at p.store) qs × Does (view g p) (calls.open_to t) (Ok (answers.Ticket p.number)) (seen_as p.store (Open t') (take p.laid qs))
+      → Sound g (open_piece p t' qs) × Does (view g p) (calls.open_to t) (Ok (answers.Ticket p.number)) (view g (open_piece p t' qs))
   opened_all t t' qs et e w made =
       let σ = g.at p.store in
       let ps = laid_points p in
-      let c = some_points p.phase (λ q. let z = sym e ∙ q in never (cc)) p.counted in
+      let c = some_points p.phase (λ q. let z = sym e ∙ q in never (cc)) s.counted in
       let ls : locations (take p.laid qs) ≡ locations ps = ap locations made ∙ map-map (λ x. x.location) (remembering σ) ps in
       let zs : shifts σ (take p.laid qs) ≡ shifts σ ps = ap (shifts σ) made ∙ map-map (λ x. shift_in (σ x.location)) (remembering σ) ps in
       let bs : remembered (take p.laid qs) ≡ shifts σ ps = ap remembered made ∙ map-map (λ x. x.remembered) (remembering σ) ps in
       let gs : marks (take p.laid qs) ≡ replicate (length (shifts σ ps)) false =
       ap marks made ∙ map-map (λ x. x.graded) (remembering σ) ps ∙ sym (splat_is_map ps (length ps) false refl) ∙ ap (λ n. replicate n false) (sym (length-map ps _)) in
       let m : (view g p).mode ≡ laid (locations ps) (shifts σ ps) = ap (λ (x : Phase). mode_of x σ ps) e in
-      let h : σ ≡ holding (locations ps) (shifts σ ps) = p.held ∙ ap store_of m in (
-        record { counted = c; apart = subst Free (sym ls) p.apart; held = h ∙ ap₂ holding (sym ls) (sym zs) },
+      let h : σ ≡ holding (locations ps) (shifts σ ps) = s.held ∙ ap store_of m in (
+        record { wide = w; counted = c; apart = subst Free (sym ls) s.apart; held = h ∙ ap₂ holding (sym ls) (sym zs) },
         done (ap (does_open (view g p) t) m) (λ q. never (cc)) refl
             (ap (with_mode (view g p))
             (ap₂ (λ (v : ℤ) (xs : List ℕ). opened v xs (shifts σ (take p.laid qs)) (remembered (take p.laid qs)) (marks (take p.laid qs))) et ls
@@ -198,12 +194,12 @@ module _ {S : Type 0} (g : Ghosts S) (p : Piece S g) (wide : length p.points ≡
 
   pub undone_all : (s' : S) (t v : ℤ) (n : ℕ) → p.phase ≡ Open t → n ≡ p.number → v ≡ p.step → g.bound s' ≡ g.bound p.store
       → g.at s' ≡ holding (locations (laid_points p)) (remembered (laid_points p))
-      → Sound Laid p.laid (g.at s') p.points × Does (view g p) (calls.undo n) (Ok (answers.Undone v)) (seen_as s' Laid (laid_points p))
+      → Sound g (laid_piece p s' p.laid p.points) × Does (view g p) (calls.undo n) (Ok (answers.Undone v)) (view g (laid_piece p s' p.laid p.points))
   undone_all s' t v n e same ev limit back =
       let σ = g.at p.store in
       let ps = laid_points p in
-      let c = some_points p.phase (λ q. let z = sym e ∙ q in never (cc)) p.counted in
-      let r = sound_laid s' p.laid p.points (remembered ps) wide c.0 c.1 p.apart (length-map ps _ ∙ long g p wide) back in
+      let c = some_points p.phase (λ q. let z = sym e ∙ q in never (cc)) s.counted in
+      let r = sound_laid s' p.laid p.points (remembered ps) s.wide c.0 c.1 s.apart (length-map ps _ ∙ long g p s) back in
       let m : (view g p).mode ≡ opened t (locations ps) (shifts σ ps) (remembered ps) (marks ps) = ap (λ (x : Phase). mode_of x σ ps) e in
       let is : eqb n p.number ≡ true = eq-eqb n _ same in
       let d : does [] (view g p) (calls.undo n) ≡ answers_with (answers.Undone p.step) (with_mode (view g p) (laid (locations ps) (remembered ps))) = ap (does_undo (view g p) n) m ∙ simp is in (

@@ -1,4 +1,3 @@
 pub mod Views
-pub mod Piece
 pub mod Runs
 pub mod Replay

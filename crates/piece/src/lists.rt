@@ -2,8 +2,7 @@
 ghost use Rattle.std.specs.Prelude.{◌≡◌, min, length, take, drop};
 ghost use Rattle.history.specs.States.{Accepted, Call as Asked, grade as grades, Does};
 ghost use Rattle.piece.specs.Replay.{Meant, table_at, checked, check_lengths, run_lengths, SameLengths, Replayed, start};
-ghost use Rattle.piece.specs.Views.{said};
-ghost use Rattle.piece.specs.Piece.{view};
+ghost use Rattle.piece.specs.Views.{Sound, view, said};
 
 use crate::pieces::{Piece, Returned, Ticket};
 use history::Answer;
@@ -58,6 +57,8 @@ impl<S: Store> Piece<S> {
         nodes: &[Node],
         lists: &mut ReplayLists<'_, '_, '_, '_, '_>,
     ) -> Result<Graded, Fault>
+        requires { Sound S.Store self.old }
+        ensures sound { Sound S.Store self.new }
         ensures lists_kept { SameLengths lists.old lists.new }
         ensures does { (a : Accepted) → a.table ≡ checked nodes.now (check_lengths lists.old) → Does (view S.Store self.old) (grades grading.ticket grading.point a grading.allowance (run_lengths lists.old)) (said Answer.Graded result) (view S.Store self.new) }
     {
@@ -92,6 +93,8 @@ impl<S: Store> Piece<S> {
         tables: &[&[Node]],
         lists: &mut ReplayLists<'_, '_, '_, '_, '_>,
     ) -> Result<Answer, Fault>
+        requires { Sound S.Store self.old }
+        ensures sound { Sound S.Store self.new }
         ensures lists_kept { SameLengths lists.old lists.new }
         ensures does { (c : Asked) → Meant tables.now (check_lengths lists.old) (run_lengths lists.old) call c → Does (view S.Store self.old) c result (view S.Store self.new) }
     {

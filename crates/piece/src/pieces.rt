@@ -1,8 +1,8 @@
 // A piece, and what it is asked.
-ghost use Rattle.std.specs.Prelude.{◌≡◌, ◌<◌, take};
-ghost use Rattle.history.specs.States.{Free, store_of};
-ghost use Rattle.piece.specs.Runs.{below};
-ghost use Rattle.piece.specs.Views.{Counted, Counted_prop, Free_prop, locations, mode_of};
+ghost use Rattle.std.specs.Prelude.{◌≡◌, ◌<◌};
+ghost use Rattle.history.specs.States.{Accepted, Does, fresh, grade as grades, lay as lays, open_to as opens, keep as keeps, undo as undoes, show as shows};
+ghost use Rattle.piece.specs.Runs.{below, lengths, RanOn};
+ghost use Rattle.piece.specs.Views.{Sound, view, said, said_back, Back, ticket_answer, with_shift};
 
 use crate::points::{Point, first_ungraded, put_back, remember, shift_at, take_locations};
 use history::{Answer, Shown};
@@ -46,7 +46,9 @@ enum Phase {
     Open(Number),
 }
 
-// The laid points have locations of their own, and exactly those are live, each holding a shift.
+// The laid points have locations of their own, and exactly those are live, each holding a shift: the calls ask for this and
+// keep it, as `Sound`. It is no fact of the type: a generic struct with facts may not stand in a caller's struct such as
+// `struct Row<S: Store> { piece: Piece<S>, next: Option<Box<Row<S>>> }`.
 #[derive(Drop)]
 pub struct Piece<S: Store> {
     store: S,
@@ -56,9 +58,6 @@ pub struct Piece<S: Store> {
     // how many of the records are laid: the table is a plain inner one, of a fixed length, so the count stands beside it
     laid: u16,
     points: [Point; 256],
-    ghost counted: { Counted phase laid } by { Counted_prop phase laid },
-    ghost apart: { Free (locations (take laid points)) } by { Free_prop (locations (take laid points)) },
-    ghost held: { S.Store.at store ≡ store_of (mode_of phase (S.Store.at store) (take laid points)) },
 }
 
 // A run's answer, with the point added to what comes from below the piece.
@@ -72,13 +71,9 @@ fn from_below(point: u16, answer: Result<Graded, Fault>) -> Result<Graded, Fault
 }
 
 impl<S: Store> Piece<S> {
-    ghost use Rattle.history.specs.States.{Accepted, Does, fresh, grade as grades, lay as lays, open_to as opens, keep as keeps, undo as undoes, show as shows};
-    ghost use Rattle.piece.specs.Runs.{lengths, RanOn};
-    ghost use Rattle.piece.specs.Views.{said, said_back, Back, ticket_answer, with_shift};
-    ghost use Rattle.piece.specs.Piece.{view};
-
     // A bare piece, at step 0.
     pub fn new(store: S, number: u32) -> Piece<S>
+        ensures sound { Sound S.Store result }
         ensures bare { view S.Store result ≡ fresh number (S.Store.bound store) (S.Store.at store) }
         ensures store { result.store ≡ store }
     {
@@ -99,6 +94,7 @@ impl<S: Store> Piece<S> {
 
     // A point's shift, and the piece's step.
     pub fn show(&self, point: u16) -> Result<Shown, Fault>
+        requires { Sound S.Store self.now }
         ensures { Does (view S.Store self.now) (shows point) (said Answer.Shown result) (view S.Store self.now) }
     {
         if point >= self.laid {
@@ -113,7 +109,9 @@ impl<S: Store> Piece<S> {
 
     // Lays the points, each at a location of its own that holds 0.
     pub fn lay(&mut self, points: u16) -> Result<(), Fault>
-        ensures { Does (view S.Store self.old) (lays points) (said (λ _. Answer.Laid) result) (view S.Store self.new) }
+        requires { Sound S.Store self.old }
+        ensures sound { Sound S.Store self.new }
+        ensures does { Does (view S.Store self.old) (lays points) (said (λ _. Answer.Laid) result) (view S.Store self.new) }
     {
         let Phase::Bare = self.phase else {
             return Err(Fault::new(PieceCause::NotBare.into(), 0));
@@ -132,7 +130,9 @@ impl<S: Store> Piece<S> {
 
     // Begins a resize to a new step: remembers each shift, and gives the ticket that ends it.
     pub fn open(&mut self, step: Number) -> Result<Ticket, Fault>
-        ensures { Does (view S.Store self.old) (opens step) (said (λ t. Answer.Ticket t.number) result) (view S.Store self.new) }
+        requires { Sound S.Store self.old }
+        ensures sound { Sound S.Store self.new }
+        ensures does { Does (view S.Store self.old) (opens step) (said (λ t. Answer.Ticket t.number) result) (view S.Store self.new) }
     {
         let Phase::Laid = self.phase else {
             return Err(Fault::new(PieceCause::NotReady.into(), 0));
@@ -156,8 +156,10 @@ impl<S: Store> Piece<S> {
 
     // Puts a shift into the location of a laid point, and marks the point graded.
     fn put_shift(&mut self, point: u16, shift: Number)
-        requires { point < self.old.laid }
-        ensures { view S.Store self.new ≡ with_shift (view S.Store self.old) point shift }
+        requires sound { Sound S.Store self.old }
+        requires laid { point < self.old.laid }
+        ensures sound { Sound S.Store self.new }
+        ensures put { view S.Store self.new ≡ with_shift (view S.Store self.old) point shift }
     {
         let location = self.points[point as usize].location;
         self.store.write(location, Value::Whole(shift)).unwrap();
@@ -173,6 +175,8 @@ impl<S: Store> Piece<S> {
         allowance: u32,
         lists: RunLists<'_, '_, '_>,
     ) -> Result<Graded, Fault>
+        requires { Sound S.Store self.old }
+        ensures sound { Sound S.Store self.new }
         ensures does { (a : Accepted) → a.table ≡ rule.now.nodes.now → Does (view S.Store self.old) (grades ticket.now.number point a allowance (lengths lists.entry)) (said Answer.Graded result) (view S.Store self.new) }
         ensures ran { (a : Accepted) → a.table ≡ rule.now.nodes.now → RanOn (view S.Store self.old) a allowance result }
     {
@@ -200,6 +204,8 @@ impl<S: Store> Piece<S> {
     // Ends the resize if every point is graded: the new step becomes the piece's.
     #[tactic(auto, using(crate::proofs::Passes::position_ungraded))]
     pub fn keep(&mut self, ticket: Ticket) -> Result<Number, Returned>
+        requires { Sound S.Store self.old }
+        ensures sound { Sound S.Store self.new }
         ensures back { Back ticket result }
         ensures does { Does (view S.Store self.old) (keeps ticket.number) (said_back Answer.Kept result) (view S.Store self.new) }
     {
@@ -222,6 +228,8 @@ impl<S: Store> Piece<S> {
 
     // Ends the resize: the shifts that it remembers are put back.
     pub fn undo(&mut self, ticket: Ticket) -> Result<Number, Returned>
+        requires { Sound S.Store self.old }
+        ensures sound { Sound S.Store self.new }
         ensures back { Back ticket result }
         ensures does { Does (view S.Store self.old) (undoes ticket.number) (said_back Answer.Undone result) (view S.Store self.new) }
     {

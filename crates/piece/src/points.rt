@@ -27,8 +27,7 @@ pub(crate) fn shift_at<S: Store>(store: &S, location: u16) -> Number
     }
 }
 
-// Takes a location for each of the first points, holding 0. It takes the whole table and a count, and so does `remember`:
-// a part of an array is not lent out of a struct that has facts, as the piece has (tried: the borrow check does not cover it).
+// Takes a location for each of the first points, holding 0.
 pub(crate) fn take_locations<S: Store>(store: &mut S, points: &mut [Point], count: usize)
     requires within { count ≤ length points.old }
     requires empty { live (S.Store.at store.old) ≡ 0 }

@@ -1,4 +1,6 @@
 // Calls of pieces on both stores, with the answers that the documents give.
+ghost use Rattle.piece.specs.Views.{Sound};
+
 use byte_store::ByteStore;
 use history::{Answer, Shown};
 use language::{
@@ -13,7 +15,7 @@ use scope::Record;
 use std::alloc::{AllocError, Global};
 use std::process::Abort;
 use std::test::Fail;
-use store::Store;
+use store::{Dead, Full, Store, WriteRefusal};
 
 const CELLS: usize = 64;
 
@@ -91,7 +93,9 @@ fn given(step: Number) -> Result<Graded, Fault> {
     })
 }
 
-fn shows<S: Store>(piece: &Piece<S>, point: u16, due: (Number, Number)) -> bool {
+fn shows<S: Store>(piece: &Piece<S>, point: u16, due: (Number, Number)) -> bool
+    requires { Sound S.Store piece.now }
+{
     match piece.show(point) {
         Ok(Shown { shift, step }) => (shift, step) == due,
         Err(_) => false,
@@ -196,12 +200,8 @@ fn each_refusal_has_its_number(rt: HostRuntime) -> Result<(), Fail> {
 fn a_lay_is_refused(rt: HostRuntime) -> Result<(), Fail> {
     let mut cells = [Cell::free(); 2];
     let mut piece = Piece::new(RecordStore::over(&mut cells), NUMBER);
-    for points in [0, 257] {
-        assert!(rt;
-            piece.lay(points) == Err(no(PieceCause::Points, 0)),
-            "{points}"
-        );
-    }
+    assert!(rt; piece.lay(0) == Err(no(PieceCause::Points, 0)));
+    assert!(rt; piece.lay(257) == Err(no(PieceCause::Points, 0)));
     assert!(rt; piece.lay(3) == Err(no(PieceCause::Store, 0)));
     piece.lay(2)?;
     assert!(rt; piece.lay(2) == Err(no(PieceCause::NotBare, 0)));
@@ -229,7 +229,10 @@ fn the_most_points_are_laid(rt: HostRuntime) -> Result<(), Fail> {
 }
 
 // The refusal of an open.
-fn not_opened<S: Store>(rt: &impl Abort, piece: &mut Piece<S>) -> Fault {
+fn not_opened<S: Store>(rt: &impl Abort, piece: &mut Piece<S>) -> Fault
+    requires { Sound S.Store piece.old }
+    ensures { Sound S.Store piece.new }
+{
     match piece.open(4) {
         Ok(_ticket) => panic!(rt; "opened"),
         Err(fault) => fault,
@@ -249,7 +252,10 @@ fn an_open_is_refused(rt: HostRuntime) -> Result<(), Fail> {
 }
 
 // The ticket of an open, where a `?` would let another ticket go.
-fn opened<S: Store>(rt: &impl Abort, piece: &mut Piece<S>) -> Ticket {
+fn opened<S: Store>(rt: &impl Abort, piece: &mut Piece<S>) -> Ticket
+    requires { Sound S.Store piece.old }
+    ensures { Sound S.Store piece.new }
+{
     match piece.open(9) {
         Ok(ticket) => ticket,
         Err(fault) => panic!(rt; "{fault}"),
@@ -447,5 +453,87 @@ fn a_replay_answers_each_call(rt: HostRuntime) -> Result<(), Fail> {
     assert!(rt; answers[4] == Ok(Answer::Undone(0)));
     assert!(rt; answers[5] == Ok(Answer::Shown(shown)));
     assert!(rt; answers[6] == unused);
+    Ok(())
+}
+
+// ---- pieces in types of a caller's: such types build
+
+// A store that counts the takes of another.
+#[derive(Drop)]
+struct Counted<T: Store> {
+    inner: T,
+    takes: u64,
+}
+
+impl<T: Store> Store for Counted<T> {
+    ghost bound = { λ s. T.Store.bound s.inner };
+
+    ghost at = { λ s. T.Store.at s.inner };
+
+    ghost low = { λ s l h. T.Store.low s.inner l h };
+
+    ghost within = { λ s. T.Store.within s.inner };
+
+    fn limit(&self) -> u32 {
+        self.inner.limit()
+    }
+
+    fn count(&self) -> u32 {
+        self.inner.count()
+    }
+
+    fn take(&mut self, value: Value) -> Result<u16, Full> {
+        self.takes = self.takes.wrapping_add(1);
+        self.inner.take(value)
+    }
+
+    fn read(&self, location: u16) -> Result<Value, Dead> {
+        self.inner.read(location)
+    }
+
+    fn write(&mut self, location: u16, value: Value) -> Result<(), WriteRefusal> {
+        self.inner.write(location, value)
+    }
+
+    fn release(&mut self, location: u16) -> Result<(), Dead> {
+        self.inner.release(location)
+    }
+}
+
+// Generic in the store, and it refers back to itself.
+#[derive(Drop)]
+struct Row<S: Store> {
+    piece: Piece<S>,
+    next: Option<Box<Row<S>>>,
+}
+
+// Generic in a store that the caller's own store goes around.
+#[derive(Drop)]
+struct Desk<T: Store> {
+    piece: Piece<Counted<T>>,
+}
+
+fn laid_in_a_row<S: Store + Drop>(store: S) -> Result<bool, Fault> {
+    let mut row = Row {
+        piece: Piece::new(store, NUMBER),
+        next: None,
+    };
+    row.piece.lay(2)?;
+    Ok(row.next.is_none() && shows(&row.piece, 1, (0, 0)))
+}
+
+fn laid_on_a_desk<T: Store + Drop>(inner: T) -> Result<bool, Fault> {
+    let mut desk = Desk {
+        piece: Piece::new(Counted { inner, takes: 0 }, NUMBER),
+    };
+    desk.piece.lay(2)?;
+    Ok(shows(&desk.piece, 1, (0, 0)))
+}
+
+#[test]
+fn pieces_stand_in_types_of_a_caller(rt: HostRuntime) -> Result<(), Fail> {
+    let mut cells = [Cell::free(); 2];
+    assert!(rt; laid_in_a_row(RecordStore::over(&mut cells))?);
+    assert!(rt; laid_on_a_desk(RecordStore::over(&mut cells))?);
     Ok(())
 }

@@ -61,8 +61,11 @@ grown_turned {a} {b} t =
       older = λ h le. ap (λ (l : List (Record Entry)). in_sight l h) t.records;
     }
 
+pub turned_sight : {a b : Checker} {h : ℕ} → Turned a b h → sight b ≡ sight_from a h
+turned_sight {a} {b} {h} t = ap (λ (l : List (Record Entry)). in_sight l b.scope.head) t.records ∙ ap (sight_from a) t.head
+
 pub turned_sees : {a b : Checker} {h : ℕ} (ρ : Names) → Turned a b h → SeesFrom a h ρ → Sees b ρ
-turned_sees {a} {b} {h} ρ t s = looks_as t.table (ap (λ (l : List (Record Entry)). in_sight l b.scope.head) t.records ∙ ap (sight_from a) t.head) s
+turned_sees {a} {b} {h} ρ t s = looks_as t.table (turned_sight t) s
 
 -- going back
 pub back_kept : {a x y : Checker} {d t h : ℕ} → Grown a x d → Returned x y t h → t ≡ a.scope.top → h ≡ a.scope.head → Kept a y

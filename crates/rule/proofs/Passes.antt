@@ -18,12 +18,17 @@ use Rattle.rule.specs.Pieces.{long, last_node, placed, Inside, Lies, IsCom, IsCo
 use Rattle.rule.specs.Rows.{decls_from, entered}
 use Rattle.rule.specs.Shapes.{Blocks}
 use Rattle.rule.specs.Seen.{Names, types_in, Sees, SeesFrom, sight, sight_from, room, Grown, Kept, Turned}
-use Rattle.rule.specs.Said.{Entries, Sighted, SomeCom, SomeComs, SomeBlock, SomeProc, SomeProcs, ComSays, ComsSays, ProcSays, ProcsSays, ProcsSaid, RoutineIs, body_said, seen_after}
+use Rattle.rule.specs.Said.{Entries, KeptIf, Sighted, SomeCom, SomeComs, SomeBlock, SomeProc, SomeProcs, ComSays, ComsSays, ProcSays, ProcsSays, ProcsSaid, RoutineIs, body_said, seen_after}
 use Rattle.rule.proofs.Bounds.{bounded_vars}
-use Rattle.rule.proofs.Grows.{kept_sight, kept_sees, looks_as, grown_sees, grown_none, grown_kept, grown_then, grown_as, grown_turned, turned_sees}
+use Rattle.rule.proofs.Grows.{kept_same, kept_sight, kept_sees, looks_as, grown_sees, grown_none, grown_kept, grown_then, grown_as, grown_turned, turned_sees}
 use Rattle.rule.proofs.Laws.{largest, one_proc, one_bad, one_twice, one_well}
 use Rattle.rule.proofs.Sights.{looks_entered, looks_proc}
 use Rattle.rule.proofs.Splits.{inside_long, lies_inside, ComsParts, ProcsParts, ProcParts, procs_none}
+
+-- where nothing was entered, all is kept
+pub kept_any : {X : Type 0} (r : Result X Fault) (a : Checker) → KeptIf r a a
+kept_any (Ok x) a = kept_same a
+kept_any (Err f) a = tt
 
 -- what a `?` hands on
 pub carried : {X : Type 0} {r : Result X Fault} {f : Fault} → IsErrAnd r (λ g. g ≡ f) → r ≡ Err f

@@ -51,11 +51,11 @@ pub record ComsParts (p l r : Part) (cs : Coms) : Type 0 where
   pub some : 1 ≤ long r
   pub says : (ρ : Names) → check_coms ρ cs ≡ largest (check_coms ρ init) (check_com ρ c)
 
-record ComsSplit (p : Part) (cs : Coms) : Type 0 where
+pub record ComsSplit (p : Part) (cs : Coms) : Type 0 where
   pub ended : Ended p (long p)
   pub parts : (l r : Part) → Lasts p l r → ComsParts p l r cs
 
-coms_split : (p : Part) (cs : Coms) → 0 < long p → IsComs p cs → ComsSplit p cs
+pub coms_split : (p : Part) (cs : Coms) → 0 < long p → IsComs p cs → ComsSplit p cs
 coms_split p cs lt is =
     let u = back_coms p.nodes.now p.lens.now p.first cs 0 is.at (some_coms cs (omega (arith, is.whole))) in
     let z : long p ≡ 0 + size_coms u.init + size u.c = omega (arith, is.whole, u.sizes) in
@@ -110,7 +110,7 @@ pub record ProcsParts (p l r : Part) (ps : Procs) : Type 0 where
   pub hides : (σ : Entries) → hidden (proc_names ps) σ ≡ hidden (proc_names init) ((m, Hidden) ∷ σ)
   pub names : (x : ℕ) → member x (seen_after ps []) ≡ (same x m || member x (seen_after init []))
 
-record ProcsSplit (p : Part) (ps : Procs) : Type 0 where
+pub record ProcsSplit (p : Part) (ps : Procs) : Type 0 where
   pub ended : Ended p (long p)
   pub parts : (l r : Part) → Lasts p l r → ProcsParts p l r ps
 
@@ -118,7 +118,7 @@ pub two_each : (ps : Procs) → 2 * how_many_procs ps ≤ size_procs ps
 two_each pnil = omega arith
 two_each (pcons i m fs c ps) = omega (arith, two_each ps, com_some c)
 
-procs_split : (p : Part) (ps : Procs) → 0 < long p → IsProcs p ps → ProcsSplit p ps
+pub procs_split : (p : Part) (ps : Procs) → 0 < long p → IsProcs p ps → ProcsSplit p ps
 procs_split p ps lt is =
     let u = back_procs p.nodes.now p.lens.now p.first ps 0 is.at (some_procs ps (omega (arith, is.whole))) in
     let z : long p ≡ 0 + size_procs u.init + (length u.fs + size u.c + 1) = omega (arith, is.whole, u.sizes) in

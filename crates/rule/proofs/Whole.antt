@@ -19,7 +19,7 @@ use Rattle.rule.specs.declared.parts.Part.{Part}
 use Rattle.rule.specs.Pieces.{long, Lies, IsCom}
 use Rattle.rule.specs.Seen.{Looks, Sees, sight, room, Grown}
 use Rattle.rule.specs.Said.{SomeCom, ComSays}
-use Rattle.rule.specs.Accepted.{has_need, accepted, Accepted, need_of}
+use Rattle.rule.specs.Accepted.{has_need, accepted, Accepted, need_of, verdict}
 use Rattle.rule.proofs.Bounds.{com_bound}
 use Rattle.rule.proofs.Cuts.{com_cut}
 use Rattle.rule.proofs.Grows.{looks_as}
@@ -28,7 +28,7 @@ use Rattle.rule.proofs.Sights.{looks_cons}
 
 -- the part that is all of the table
 module _ (p : Part) (ls : List ℕ) (first : p.first ≡ 0) (lens : p.lens.now ≡ take (long p) ls) (enough : long p ≤ length ls) (most : long p ≤ 4096) where
-  whole_is : (w : Lengths p.nodes.now ls) → IsCom p w.rule
+  pub whole_is : (w : Lengths p.nodes.now ls) → IsCom p w.rule
   whole_is w =
       let o : 0 + 0 ≡ p.first = omega arith in
       record {
@@ -39,7 +39,7 @@ module _ (p : Part) (ls : List ℕ) (first : p.first ≡ 0) (lens : p.lens.now �
         whole = sym w.whole;
       }
 
-  whole_lies : Lies p.nodes.now p
+  pub whole_lies : Lies p.nodes.now p
   whole_lies =
       record { nodes = sym (ap (λ (k : ℕ). take (long p) (drop k p.nodes.now)) first ∙ take_all (long p) p.nodes.now (omega arith)); within = omega arith }
 
@@ -100,9 +100,9 @@ need_ok : (o : Result (Com × ℕ) Fault) (n : ℕ) → Ok n ≡ need_of o → (
 need_ok (Ok p) n h = let z : n ≡ p.1 = cc in (p.0, ap (λ (m : ℕ). Ok (p.0, m)) (sym z))
 need_ok (Err f) n h = cc
 
-pub check_ok : (ns : List Node) (l m k n : ℕ) → Ok n ≡ need_of (check ns l m k) → Accepted ns n
+pub check_ok : (ns : List Node) (l m k n : ℕ) → Ok n ≡ need_of (check ns l m k) → (verdict (check ns l m k) ≡ Ok tt) × Accepted ns n
 check_ok ns l m k n h =
     let w = need_ok (check ns l m k) n h in
     let s = asked_ok (right_size (length ns)) _ _ _ w.1 in
     let e = asked_ok (long_enough (length ns) l m k) _ _ _ s.1 in
-    record { rule = w.0; reads = e.1; sized = s.0 }
+    (ap verdict w.1, record { rule = w.0; reads = e.1; sized = s.0 })

@@ -1,5 +1,5 @@
 -- Frames and values on the levels of a stack.
-use Rattle.std.proofs.Common.{◌≡◌, ℕ, zero, suc, ◌+◌, ◌-◌, ◌<◌, ◌≤◌, ◌≢◌, List, [], ◌∷◌, length, set, Some, Err, Result, refl, ap, ◌∙◌, ap₂, add-one, arith, get_or-set_other, get_or-set_same}
+use Rattle.std.proofs.Common.{◌≡◌, ℕ, zero, suc, ◌+◌, ◌-◌, ◌<◌, ◌≤◌, ◌≢◌, List, [], ◌∷◌, length, set, Some, Err, Result, sym, refl, ap, ◌∙◌, ap₂, add-one, arith, get_or-set_other, get_or-set_same}
 use Rattle.language.specs.declared.tables.Node.{Node}
 use Rattle.language.specs.declared.tables.Kind.{Kind}
 use Rattle.language.specs.declared.tables.Kind.TheVariants.{Truth, Whole, Read, Plus, Less, Or, Null, Assign, If, While, Call, Argument, Decl, Proc, Block}
@@ -7,6 +7,7 @@ use Rattle.language.specs.Memory.{Memory}
 use Rattle.language.specs.declared.values.Value.{Value}
 use Rattle.language.specs.declared.values.Stop.{Stop}
 use Rattle.language.specs.declared.values.Stop.TheVariants.{Stuck}
+use Rattle.run.specs.declared.levels.Frame.{Frame}
 use Rattle.run.specs.declared.levels.Level.{Level}
 use Rattle.run.specs.Levels.{newest_first, frames, values, level_at, no_level}
 use Rattle.run.specs.Evaluation.{Locator, operated, operator_value, node_done}
@@ -44,6 +45,14 @@ frames_push vs d x h =
 
 pub frames_top : (vs : List Level) (d : ℕ) → 0 < d → frames vs d ≡ (level_at vs (d - 1)).frame ∷ frames vs (d - 1)
 frames_top vs d h = newest_top _ d h
+
+abbrev below_top : List Frame → List Frame
+below_top [] = []
+below_top (f ∷ fs) = fs
+
+-- levels that have the same frames have the same frames below the newest
+pub frames_below : (vs vs' : List Level) (d : ℕ) → 0 < d → frames vs' d ≡ frames vs d → frames vs' (d - 1) ≡ frames vs (d - 1)
+frames_below vs vs' d h e = ap below_top (sym (frames_top vs' d h) ∙ e ∙ frames_top vs d h)
 
 pub values_push : (vs : List Level) (d h : ℕ) (x : Level) → d + h < length vs → values (set vs (d + h) x) d (h + 1) ≡ x.value ∷ values vs d h
 values_push vs d h x lt =

@@ -31,6 +31,9 @@ pub give_first : {A B : Type 0} (a : A) (k : A → Step B) (σ : Memory) (u : �
 give_first a k σ u o (inl (s, τ, x, e)) = absurd (never a σ τ u s (sym x))
 give_first a k σ u o (inr (b, τ, v, x, y)) = at_end (λ c ρ w. k c ρ w o) a b σ τ u v (sym x) y
 
+pub first_give : {A B : Type 0} (a : A) (k : A → Step B) (σ : Memory) (u : ℕ) (o : Out B) → k a σ u o → (give a >>= k) σ u o
+first_give a k σ u o h = inr (a, σ, u, refl, h)
+
 -- three steps, grouped in the two ways
 pub group : {A B C : Type 0} (m : Step A) (f : A → Step B) (k : B → Step C) (σ : Memory) (u : ℕ) (o : Out C)
     → (m >>= f >>= k) σ u o → (m >>= λ a. f a >>= k) σ u o

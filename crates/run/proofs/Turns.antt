@@ -218,7 +218,7 @@ procedure_at r f m j q n e =
     (lt, one, y.seen, y.weight, omega arith)
 
 -- the runner sees what its newest frame sees
-ready_for : (r : Runner) (sc : Scope Binding) (f : Frame) → r.stack.depth < deepest_of r
+pub ready_for : (r : Runner) (sc : Scope Binding) (f : Frame) → r.stack.depth < deepest_of r
     → Good r.table.nodes.now r.table.lens.now r.scope.records.now (deepest_of r) r.scope.top (f ∷ frames_of r)
     → sc.records.now ≡ r.scope.records.now → sc.top ≡ f.top → sc.head ≡ f.position → Ready (record r { scope = sc }) f
 ready_for r sc f w g er et eh =

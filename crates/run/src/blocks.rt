@@ -4,7 +4,7 @@
 // is asked by each, since it does not hold at all times.
 ghost use Rattle.std.specs.Prelude.{◌≡◌, ℕ, ◌+◌, ◌-◌, ◌<◌, ◌≤◌, length};
 ghost use Rattle.language.specs.Runs.{release_all};
-ghost use Rattle.run.specs.Shapes.{ComsBefore, ProcsBefore};
+ghost use Rattle.run.specs.Shapes.{ComsBefore, ProcsBefore, back};
 ghost use Rattle.run.specs.Names.{SameBelow, VariablesAt, locations_from};
 ghost use Rattle.run.specs.Levels.{frames};
 ghost use Rattle.run.specs.Machine.{outcome, Opened, BoundTo, pushed, Listed, head, ProceduresIn};
@@ -63,17 +63,19 @@ pub(crate) fn close_block<S: Store>(
 
 impl Stack<'_> {
     // Puts a frame like `frame` for each of the `count` commands that end right before `end`, the first one on top.
+    // Gives where they begin.
     pub(crate) fn push_commands(
         &mut self,
         table: Table<'_>,
         mut end: usize,
         count: usize,
         frame: Frame,
-    )
+    ) -> usize
         requires room { self.old.depth + count ≤ length self.old.levels.now }
         requires inside { end ≤ length table.nodes.now }
         requires commands { ComsBefore table.nodes.now table.lens.now 0 end count }
         ensures depth { self.new.depth ≡ self.old.depth + count }
+        ensures end { result ≡ back table.entry.lens.now end count }
         ensures frames { frames self.new.levels.now self.new.depth ≡ pushed table.entry.lens.now frame.state frame.position frame.top end count (frames self.old.levels.now self.old.depth) }
         ensures length_kept { length self.new.levels.now ≡ length self.old.levels.now }
     {
@@ -82,6 +84,7 @@ impl Stack<'_> {
             self.push(Frame { at, ..frame });
             end = table.start(at);
         }
+        end
     }
 
     // Notes the `count` procedures that end right before `end` on the levels above the frames, the first one first.
@@ -127,6 +130,19 @@ fn enter_procedures(
             .enter(table.node(at).name, Binding::Procedure(at, seen))
             .unwrap();
     }
+}
+
+// How many records are in use once `count` procedures are brought into sight, and the position that is then seen from.
+// The scope is lent by `&mut`, and not written: that its list is no longer than a number can say is known only so.
+pub(crate) fn after_procedures(scope: &mut Scope<'_, Binding>, count: usize) -> (usize, usize)
+    requires room { scope.old.top + count ≤ length scope.old.records.now }
+    ensures kept { scope.new ≡ scope.old }
+    ensures top { result.0 ≡ scope.old.top + count }
+    ensures position { result.1 ≡ head scope.old.top scope.old.head count }
+{
+    let top = scope.used() + count;
+    let position = if count == 0 { scope.position() } else { top };
+    (top, position)
 }
 
 // Brings the `count` procedures that end right before `end` into sight, with the levels above the frames to work in.

@@ -12,7 +12,9 @@ ghost use Rattle.run.specs.Running.{ChangesOnlyValues, KeepsTable, frames_of, de
 ghost use Rattle.run.specs.Machine.{outcome, Tested, Assigned, ProceduresOk, EndOk, Good, Ready, Steps, Unwound, Ran, block_locations};
 
 use crate::bindings::{find_procedure, locate};
-use crate::blocks::{bind_arguments, close_block, declare_procedures, open_block};
+use crate::blocks::{
+    after_procedures, bind_arguments, close_block, declare_procedures, open_block,
+};
 use crate::levels::{Frame, State, tick};
 use crate::operators::truth_of;
 use crate::runner::Runner;
@@ -148,25 +150,22 @@ impl Runner<'_, '_, '_> {
         let node = table.node(frame.at);
         let from = table.start(frame.at);
         open_block(table, from, node.a as usize, &mut self.scope, store)?;
-        let commands = node.c as usize;
-        let end = table.start_of_commands(frame.at, commands);
-        declare_procedures(
-            table,
-            end,
-            node.b as usize,
-            &mut self.scope,
-            &mut self.stack,
-        );
+        // the procedures come into sight last: where they end is known when the commands after them were gone over
+        let procedures = node.b as usize;
+        let (top, position) = after_procedures(&mut self.scope, procedures);
         let inner = Frame {
-            top: self.scope.used(),
-            position: self.scope.position(),
+            top,
+            position,
             ..frame
         };
         self.stack.push(Frame {
             state: State::End,
             ..inner
         });
-        self.stack.push_commands(table, frame.at, commands, inner);
+        let end = self
+            .stack
+            .push_commands(table, frame.at, node.c as usize, inner);
+        declare_procedures(table, end, procedures, &mut self.scope, &mut self.stack);
         Ok(())
     }
 

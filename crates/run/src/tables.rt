@@ -1,11 +1,11 @@
 // A rule's table with the length of the stretch that each node ends. The nodes are the caller's, read-only, and the lengths
 // stand in a list that is lent: so they are two slices. A node's number has to be in range wherever it is used, as an index has.
-ghost use Rattle.std.specs.Prelude.{◌≡◌, ◌+◌, ◌<◌, ◌≤◌, length};
+ghost use Rattle.std.specs.Prelude.{◌≡◌, ◌+◌, ◌<◌, length};
 ghost use Rattle.table.specs.Measured.{Lengths};
 ghost use Rattle.table.specs.Stretches.{node_at};
 ghost use Rattle.table.specs.Walk.{start_at};
 ghost use Rattle.run.specs.Fit.{Lengths-prop};
-ghost use Rattle.run.specs.Shapes.{ComsBefore, back, kind_at};
+ghost use Rattle.run.specs.Shapes.{kind_at};
 
 use language::{Kind, Node};
 
@@ -46,17 +46,5 @@ impl<'a> Table<'a> {
         ensures end { result ≡ at + 1 }
     {
         at + 1
-    }
-
-    // Where the `count` commands begin that end right before `end`.
-    pub(crate) fn start_of_commands(self, mut end: usize, count: usize) -> usize
-        requires inside { end ≤ length self.nodes.now }
-        requires commands { ComsBefore self.nodes.now self.lens.now 0 end count }
-        ensures start { result ≡ back self.entry.lens.now end count }
-    {
-        for _ in 0..count {
-            end = self.start(end - 1);
-        }
-        end
     }
 }

@@ -1,8 +1,8 @@
 -- The laws of the names in sight, for every type of entry.
-use Rattle.std.proofs.Common.{◌≡◌, ℕ, zero, suc, ◌+◌, ◌-◌, ◌<◌, ◌≤◌, Bool, true, false, cond, eqb, List, [], ◌∷◌, length, get_or, set, Some, None, Option, sym, refl, ap, ◌∙◌, subst, ap₂, ⊎_elim, add-one, arith}
+use Rattle.std.proofs.Common.{◌≡◌, ℕ, zero, suc, ◌+◌, ◌-◌, ◌<◌, ◌≤◌, Bool, true, false, cond, eqb, leb, ◌⊎◌, List, [], ◌∷◌, length, get_or, set, Some, None, Option, sym, refl, ap, ◌∙◌, subst, ap₂, inl, inr, ⊎_elim, add-one, arith}
 use Rattle.std.specs.List.{slice_get}
 use Rattle.std.proofs.lemmas.Option.{slice_get_read}
-use Rattle.std.proofs.lemmas.Bool.{eq-eqb, ne_eqb, le-leb, cond-true, cond-false, cases_eq}
+use Rattle.std.proofs.lemmas.Bool.{eq-eqb, ne_eqb, le-leb, lt-leb, cond-true, cond-false, cases_eq}
 use Rattle.language.specs.Same.{same}
 use Rattle.language.specs.Sight.{Sight, look}
 use Rattle.scope.specs.declared.Record.{Record}
@@ -97,8 +97,9 @@ module _ {E : Type 0} where
       → entered rs top p ≡ Some r.entry
   latest_at rs p top r pos le room d read = rw (le-leb p top le) (ap latest (turn rs p top r pos le room d read).1)
 
-  pub latest_none : (rs : List (Record E)) (p top : ℕ) → p ≡ 0 → entered rs top p ≡ None
-  latest_none rs p top z = let s : in_sight rs p ≡ [] = sight_zero rs p z in rw (s, le-leb p top (omega arith)) refl
+  pub latest_none : (rs : List (Record E)) (p top : ℕ) → (p ≡ 0) ⊎ ((p ≡ 0 → ⊥) × (top < p)) → entered rs top p ≡ None
+  latest_none rs p top (inl z) = let s : in_sight rs p ≡ [] = sight_zero rs p z in rw (s, le-leb p top (omega arith)) refl
+  latest_none rs p top (inr h) = let n : leb p top ≡ false = lt-leb p top h.1 in rw n refl
 
   -- a look at the head of a sight
   pub look_here : (n : ℕ) (p : ℕ × E) (ps qs : Sight E) (b : Bool) → qs ≡ p ∷ ps → b ≡ same n p.0 → b ≡ true → look n qs ≡ Some p.1

@@ -29,6 +29,10 @@ pub enum WriteRefusal {
 }
 
 impl fmt::Display for Full {
+    ghost use Rattle.std.specs.Prelude.{codes};
+
+    ghost output = { λ _. Some (codes "the store is full") };
+
     fn fmt<W: fmt::Write>(&self, f: &mut fmt::Formatter<W>) -> fmt::Result {
         f.write_str("the store is full")
     }
@@ -37,6 +41,10 @@ impl fmt::Display for Full {
 impl Error for Full {}
 
 impl fmt::Display for Dead {
+    ghost use Rattle.std.specs.Prelude.{codes};
+
+    ghost output = { λ _. Some (codes "dead") };
+
     fn fmt<W: fmt::Write>(&self, f: &mut fmt::Formatter<W>) -> fmt::Result {
         f.write_str("dead")
     }
@@ -45,6 +53,10 @@ impl fmt::Display for Dead {
 impl Error for Dead {}
 
 impl fmt::Display for WriteRefusal {
+    ghost use Rattle.store.specs.Printed.{refusal_text};
+
+    ghost output = { λ refusal. Some (refusal_text refusal) };
+
     fn fmt<W: fmt::Write>(&self, f: &mut fmt::Formatter<W>) -> fmt::Result {
         f.write_str(match self {
             WriteRefusal::Dead => "dead",

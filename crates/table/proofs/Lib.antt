@@ -4,3 +4,4 @@ pub mod Pops
 pub mod Nodes
 pub mod Passes
 pub mod SortTests
+pub mod Starts

@@ -1,11 +1,11 @@
-use Rattle.std.proofs.Common.{◌≡◌, ◌-◌, sym, ap, ◌∙◌, get_or, arith}
+use Rattle.std.proofs.Common.{◌≡◌, ◌-◌, inl, sym, ap, ◌∙◌, get_or, arith}
 use Rattle.scope.proofs.Chains.{latest_at, latest_none}
 use Rattle.scope.proofs.Scope.entry_at.Goals as goal
 
 pub returns-in_err-index : goal.returns-in_err-index
 returns-in_err-index g c =
     let s = c.args.self.now in
-    rw c.from_residual.ensures (record { latest = sym (latest_none s.records.now c.args.position s.top (omega arith)) })
+    rw c.from_residual.ensures (record { latest = sym (latest_none s.records.now c.args.position s.top (inl (omega arith))) })
 
 pub returns : goal.returns
 returns g c =

@@ -1,5 +1,5 @@
 use Rattle.std.proofs.Common.{◌≡◌, ◌+◌, ◌-◌, ◌≤◌, length}
-use Rattle.run.specs.Shapes.{ComsBefore}
+use Rattle.run.specs.Shapes.{ComsBefore, back}
 use Rattle.run.specs.Levels.{frames}
 use Rattle.run.specs.Machine.{pushed}
 use Rattle.run.proofs.levels.Stack.push_commands.Given as goal
@@ -14,3 +14,4 @@ invariant-loop l =
     × (pushed ls f.state f.position f.top l.end (l.count - l.counter) (frames l.self.levels.now l.self.depth)
     ≡ pushed ls f.state f.position f.top l.initial.end l.count (frames l.initial.self.levels.now l.initial.self.depth))
     × (length l.self.levels.now ≡ length l.initial.self.levels.now)
+    × (back ls l.end (l.count - l.counter) ≡ back ls l.initial.end l.count)
