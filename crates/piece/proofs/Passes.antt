@@ -5,7 +5,7 @@ use Rattle.std.specs.List.{position_from}
 use Rattle.std.proofs.lemmas.Iterator.Adapters.{position_from-zero}
 use Rattle.std.specs.Result.{IsOk}
 use mathlib.Core.Path.{fun_ext}
-use Rattle.std.proofs.lemmas.List.{length-map, length-take-le, length-replicate, length_push, take_more_set, map_push, replicate_more, get_or-map}
+use Rattle.std.proofs.lemmas.List.{length-map, length-take-le, length-replicate, length_push, take_more_set, map_push, replicate_more, get_or-map, get_or-take}
 use Rattle.language.specs.declared.values.Value.{Value}
 use Rattle.language.specs.declared.values.Value.TheVariants.{Whole as whole_value}
 use Rattle.language.specs.Memory.{Memory, put, live}
@@ -84,8 +84,10 @@ module _ (σ : Memory) (ps qs : List Point) (i : ℕ) (e : Remembered σ ps qs i
   same_point : get_or qs i blank ≡ get_or ps i blank
   same_point = ap (λ (rs : List Point). get_or rs i blank) e ∙ front_at (map (remembering σ) ps) ps i blank (length-map ps _) h
 
-  pub remember_whole : AllHoldShifts σ ps → HoldsShift σ (get_or qs i blank).location
-  remember_whole whole = subst (λ (x : Point). HoldsShift σ x.location) (sym same_point) (shift_there σ ps i whole h)
+  pub remember_whole : (n : ℕ) → n ≤ length ps → i < n → AllHoldShifts σ (take n ps) → HoldsShift σ (get_or qs i blank).location
+  remember_whole n w l whole =
+      subst (λ (x : Point). HoldsShift σ x.location) (get_or-take n ps i blank l ∙ sym same_point)
+      (shift_there σ (take n ps) i whole (let t = length-take-le n ps w in omega arith))
 
   pub remember_more : (z : ℤ) → z ≡ shift_in (σ (get_or qs i blank).location)
       → Remembered σ ps (set qs i (record { location = (get_or qs i blank).location; remembered = z; graded = false })) (i + 1)

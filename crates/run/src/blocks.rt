@@ -133,7 +133,8 @@ fn enter_procedures(
 }
 
 // How many records are in use once `count` procedures are brought into sight, and the position that is then seen from.
-// The scope is lent by `&mut`, and not written: that its list is no longer than a number can say is known only so.
+// The scope is lent by `&mut`, though it is not written: of a list that is lent by `&` the proof knows no bound of its
+// length, and the sum might not fit.
 pub(crate) fn after_procedures(scope: &mut Scope<'_, Binding>, count: usize) -> (usize, usize)
     requires room { scope.old.top + count ≤ length scope.old.records.now }
     ensures kept { scope.new ≡ scope.old }
