@@ -1,6 +1,10 @@
 -- What of a piece its callers see, and what always holds of it.
 use Rattle.std.specs.Prelude.{◌≡◌, ℕ, ◌≤◌, Bool, true, false, cond, List, [], ◌∷◌, map, length, take, replicate, ℤ, pos, Some, None, Ok, Err, Option, Result, ◌==◌, slice_set}
 use Rattle.std.specs.Result.{result_map_both}
+use Rattle.std.specs.Coded.{×_prop, Π_prop, Unit-prop, le_prop}
+use mathlib.Core.HLevel.{×₃_prop, ⊥_prop}
+use Rattle.std.proofs.Math.Nat.{ℕ_set}
+use Rattle.std.proofs.Props.{props}
 use Rattle.language.specs.declared.values.Value.{Value}
 use Rattle.language.specs.declared.values.Value.TheVariants.{Whole as whole_value, Truth as truth_value}
 use Rattle.language.specs.declared.faults.Fault.{Fault}
@@ -16,7 +20,7 @@ use Rattle.piece.specs.declared.pieces.Phase.TheVariants.{Bare, Laid, Open}
 use Rattle.piece.specs.declared.pieces.Piece.{Piece}
 use Rattle.piece.specs.declared.pieces.Ticket.{Ticket}
 use Rattle.piece.specs.declared.pieces.Returned.{Returned}
-use Rattle.history.specs.States.{State, Mode, bare, laid, opened, holding, store_of, Free, with_mode, Reply}
+use Rattle.history.specs.States.{State, Mode, bare, laid, opened, holding, store_of, Apart, Free, with_mode, Reply}
 
 -- the shift at a location that holds a whole number
 abbrev pub shift_in : Option Value → ℤ
@@ -66,6 +70,23 @@ Counted Bare n = n ≡ 0
 Counted Laid n = (1 ≤ n) × (n ≤ 256)
 Counted (Open t) n = (1 ≤ n) × (n ≤ 256)
 
+-- each of these facts has one proof at most, as a fact of a type must
+pub Counted_prop : (ph : Phase) (n : ℕ) → IsProp (Counted ph n)
+Counted_prop Bare n = ℕ_set _ _
+Counted_prop Laid n = ×_prop le_prop le_prop
+Counted_prop (Open t) n = ×_prop le_prop le_prop
+
+pub Apart_prop : (l : ℕ) (ls : List ℕ) → IsProp (Apart l ls)
+Apart_prop l [] = Unit-prop
+Apart_prop l (k ∷ ks) = ×_prop (Π_prop λ _. ⊥_prop) (Apart_prop l ks)
+
+pub Free_prop : (ls : List ℕ) → IsProp (Free ls)
+Free_prop [] = Unit-prop
+Free_prop (l ∷ ls) = ×₃_prop le_prop (Apart_prop l ls) (Free_prop ls)
+
+Same_prop : (σ τ : Memory) → IsProp (σ ≡ τ)
+Same_prop σ τ = Prim.hlevel props
+
 abbrev pub laid_points : {S : Type 0} → Piece S → List Point
 laid_points p = take p.laid p.points
 
@@ -84,6 +105,15 @@ module _ {S : Type 0} (g : Ghosts S) where
     pub counted : Counted p.phase p.laid
     pub apart : Free (locations (laid_points p))
     pub held : g.at p.store ≡ store_of (view p).mode
+
+  -- one proof at most, as each of its facts has
+  pub Sound_prop : (p : Piece S) → IsProp (Sound p)
+  Sound_prop p x y i = record {
+    wide = ℕ_set _ _ x.wide y.wide i;
+    counted = Counted_prop p.phase p.laid x.counted y.counted i;
+    apart = Free_prop (locations (laid_points p)) x.apart y.apart i;
+    held = Same_prop _ _ x.held y.held i;
+  }
 
 -- a state in which a point has another shift, and is marked if a resize is open
 abbrev pub mode_with_shift : Mode → ℕ → ℤ → Mode

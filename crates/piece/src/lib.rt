@@ -4,6 +4,8 @@
 mod lists;
 mod pieces;
 mod points;
+mod sound;
 
 pub use lists::{Call, Grading, ReplayLists, replay};
 pub use pieces::{Piece, Returned, Ticket};
+pub use sound::SoundPiece;

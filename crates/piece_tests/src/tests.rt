@@ -6,7 +6,7 @@ use history::{Answer, Shown};
 use language::{
     Fault, Graded, Layer, Node, Number, PieceCause, RunCause, Scalar, TableCause, Value,
 };
-use piece::{Call, Grading, Piece, ReplayLists, Returned, Ticket, replay};
+use piece::{Call, Grading, Piece, ReplayLists, Returned, SoundPiece, Ticket, replay};
 use record_store::{Cell, RecordStore};
 use rule::{CheckLists, Entry, Rule, check};
 use run::{Binding, Level, RunLists};
@@ -535,5 +535,98 @@ fn pieces_stand_in_types_of_a_caller(rt: HostRuntime) -> Result<(), Fail> {
     let mut cells = [Cell::free(); 2];
     assert!(rt; laid_in_a_row(RecordStore::over(&mut cells))?);
     assert!(rt; laid_on_a_desk(RecordStore::over(&mut cells))?);
+    Ok(())
+}
+
+// ---- pieces with their facts in their type: no function here asks anything of them
+
+// A caller's own question, which asks nothing.
+trait Shifts {
+    fn shift(&self, point: u16) -> Option<Number>;
+}
+
+impl<S: Store> Shifts for SoundPiece<S> {
+    fn shift(&self, point: u16) -> Option<Number> {
+        self.show(point).ok().map(|shown| shown.shift)
+    }
+}
+
+// Grades both points of a piece at a step, and keeps that: a keep before the second point is graded is refused.
+fn resized<S: Store>(
+    rt: &impl Abort,
+    work: &mut Work,
+    piece: &mut SoundPiece<S>,
+    step: Number,
+) -> Result<Number, Fail> {
+    let a = rule_a(work)?;
+    let due = given(step.wrapping_add(1));
+    let ticket = piece.open(step)?;
+    assert!(rt; piece.grade(&ticket, 0, &a, 1000, work.lists()) == due);
+    let ticket = returned(rt, piece.keep(ticket), no(PieceCause::Ungraded, 1));
+    assert!(rt; piece.grade(&ticket, 1, &a, 1000, work.lists()) == due);
+    Ok(ended(rt, piece.keep(ticket)))
+}
+
+// Grades the second point at a step, and undoes that.
+fn undone<S: Store>(
+    rt: &impl Abort,
+    work: &mut Work,
+    piece: &mut SoundPiece<S>,
+    step: Number,
+) -> Result<Number, Fail> {
+    let a = rule_a(work)?;
+    let ticket = piece.open(step)?;
+    let answer = piece.grade(&ticket, 1, &a, 1000, work.lists());
+    assert!(rt; answer == given(step.wrapping_add(1)));
+    assert!(rt; piece.shift(1) == Some(step.wrapping_add(1)));
+    Ok(ended(rt, piece.undo(ticket)))
+}
+
+fn a_sound_piece<S: Store + Drop>(rt: &impl Abort, work: &mut Work, store: S) -> Result<(), Fail> {
+    let mut piece = SoundPiece::new(store, NUMBER);
+    assert!(rt; piece.lay(257) == Err(no(PieceCause::Points, 0)));
+    piece.lay(2)?;
+    assert!(rt; piece.lay(2) == Err(no(PieceCause::NotBare, 0)));
+    assert!(rt; piece.shift(1) == Some(0) && piece.shift(2).is_none());
+    assert!(rt; resized(rt, work, &mut piece, 4)? == 4);
+    assert!(rt; undone(rt, work, &mut piece, 9)? == 4);
+    assert!(rt; piece.show(1) == Ok(Shown { shift: 5, step: 4 }));
+    Ok(())
+}
+
+#[test]
+fn a_sound_piece_on_both_stores(rt: HostRuntime) -> Result<(), Fail> {
+    let mut work = Work::new(rt.alloc(), WORK)?;
+    let mut cells = [Cell::free(); CELLS];
+    let mut bytes = [0; 5 * CELLS];
+    a_sound_piece(&rt, &mut work, RecordStore::over(&mut cells))?;
+    a_sound_piece(&rt, &mut work, ByteStore::over(&mut bytes))
+}
+
+// A caller's type that says nothing of its pieces.
+#[derive(Drop)]
+struct Jacket<S: Store> {
+    front: SoundPiece<S>,
+    back: SoundPiece<S>,
+}
+
+impl<S: Store> Jacket<S> {
+    fn lay(&mut self, points: u16) -> Result<(), Fault> {
+        self.front.lay(points)?;
+        self.back.lay(points)
+    }
+}
+
+#[test]
+fn sound_pieces_in_a_type_of_a_caller(rt: HostRuntime) -> Result<(), Fail> {
+    let mut work = Work::new(rt.alloc(), WORK)?;
+    let (mut front, mut back) = ([Cell::free(); CELLS], [Cell::free(); CELLS]);
+    let mut jacket = Jacket {
+        front: SoundPiece::new(RecordStore::over(&mut front), NUMBER),
+        back: SoundPiece::new(RecordStore::over(&mut back), NUMBER + 1),
+    };
+    jacket.lay(2)?;
+    assert!(rt; resized(&rt, &mut work, &mut jacket.back, 7)? == 7);
+    assert!(rt; jacket.front.shift(0) == Some(0) && jacket.back.shift(0) == Some(8));
     Ok(())
 }
