@@ -47,8 +47,8 @@ enum Phase {
 }
 
 // The laid points have locations of their own, and exactly those are live, each holding a shift: the calls ask for this and
-// keep it, as `Sound`. It is no fact of the type: a generic struct with facts may not stand in a caller's struct such as
-// `struct Row<S: Store> { piece: Piece<S>, next: Option<Box<Row<S>>> }`. `SoundPiece` has it in its type.
+// keep it, as `Sound`. It is no fact of the type: a struct with a fact and a bound of its own may not stand in a caller's
+// struct such as `struct Row<S: Store> { piece: Piece<S>, next: Option<Box<Row<S>>> }`. `SoundPiece` has it in its type.
 #[derive(Drop)]
 pub struct Piece<S: Store> {
     store: S,

@@ -11,7 +11,7 @@ use rule::Rule;
 use run::RunLists;
 use store::Store;
 
-// It goes around a `Piece`, which may stand where a type with facts may not, as its comment says.
+// It goes around a `Piece`, which may stand in types of a caller's in which this one may not, as the comment there says.
 #[derive(Drop)]
 pub struct SoundPiece<S: Store> {
     piece: Piece<S>,
